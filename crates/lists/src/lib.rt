@@ -1,0 +1,1 @@
+// Sums, counts and tables over lists, and their laws. All of it is in specs/.

@@ -1,0 +1,5 @@
+pub mod Plan
+pub mod Joined
+pub mod Kinds
+pub mod Moves
+pub mod MoveLaws

@@ -1,0 +1,4 @@
+pub mod Plan
+pub mod Distance
+pub mod Moves
+pub mod MoveLaws
