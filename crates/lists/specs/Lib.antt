@@ -1,2 +1,4 @@
 pub mod Sums
 pub mod SumLaws
+pub mod ListLaws
+pub mod Tests

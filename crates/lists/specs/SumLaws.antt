@@ -1,12 +1,12 @@
 -- Laws of sums over a list, of sums over 1..n, and of tables of n numbers.
 -- Assumes nothing.
 use Prim.Native.Nat.{ℕ, zero, suc, _+_, _-_, _*_, _≤_, _<_}
-use native.Mathlib.Nat.{le-of-suc-le-suc, not-suc-le-zero, suc-mul}
+use native.Mathlib.Nat.{le-of-suc-le-suc, not-suc-le-zero, suc-mul, le-trans, mul-le-mul-right, add-zero, add-suc, suc-add}
 use native.Mathlib.Omega.{arith}
 use native.Mathlib.Decide.{ℕ-discrete}
 use mathlib.Core.Path.{_≡_, refl, sym, ap, _∙_}
 use mathlib.Core.List.{List, [], _∷_, map}
-use mathlib.Core.Logic.{_≢_}
+use mathlib.Core.Logic.{_≢_, _↔_}
 use lib.ListN.{length, getD, set, length-map}
 use Rattle.lists.specs.Sums.{In, at, from, upTo, sum, Every}
 
@@ -35,12 +35,16 @@ module _ {A : Type 0} where
   sum-none (x ∷ xs) = omega (arith, sum-none xs)
 
   -- no term is above B
-  pub sum-bound : (xs : List A) (f : A → ℕ) (B : ℕ) → Every (λ x. f x ≤ B) xs → sum xs f ≤ length xs * B
+  sum-bound : (xs : List A) (f : A → ℕ) (B : ℕ) → Every (λ x. f x ≤ B) xs → sum xs f ≤ length xs * B
   sum-bound [] f B e = omega arith
   sum-bound (x ∷ xs) f B e = omega (arith, e .0, sum-bound xs f B (e .1), suc-mul (length xs) B)
 
+  -- at most N terms, none above B
+  pub few-bound : (N B : ℕ) (xs : List A) (f : A → ℕ) → length xs ≤ N → Every (λ x. f x ≤ B) xs → sum xs f ≤ N * B
+  few-bound N B xs f n e = le-trans (sum-bound xs f B e) (mul-le-mul-right B n)
+
   -- a sum is 0 exactly where each of its terms is
-  pub zero-sum : (xs : List A) (f : A → ℕ) → sum xs f ≡ 0 → Every (λ x. f x ≡ 0) xs
+  zero-sum : (xs : List A) (f : A → ℕ) → sum xs f ≡ 0 → Every (λ x. f x ≡ 0) xs
   zero-sum [] f e = tt
   zero-sum (x ∷ xs) f e = (omega arith, zero-sum xs f (omega arith))
 
@@ -66,6 +70,11 @@ module _ {A : Type 0} where
   pub every-map : {B : Type 0} (P : A → Type 0) (g : B → A) (xs : List B) → Every (λ x. P (g x)) xs → Every P (map g xs)
   every-map P g [] e = tt
   every-map P g (x ∷ xs) e = (e .0, every-map P g xs (e .1))
+
+  -- where each term is 0 exactly when Q holds of its place, the sum is 0 exactly when Q holds of all
+  pub zero-each : (Q : A → Type 0) (xs : List A) (f : A → ℕ) → Every (λ x. f x ≡ 0 ↔ Q x) xs → sum xs f ≡ 0 ↔ Every Q xs
+  zero-each Q xs f h =
+      (λ e. every-both (λ x i z. i .0 z) xs h (zero-sum xs f e), λ q. sum-zero xs f (every-both (λ x i z. i .1 z) xs h q))
 
 -- two sums, one inside the other, in either order
 pub sum-swap : {A B : Type 0} (xs : List A) (ys : List B) (f : A → B → ℕ) → sum xs (λ x. sum ys (f x)) ≡ sum ys (λ y. sum xs (λ x. f x y))
@@ -97,15 +106,15 @@ every-upTo P n h = every-from P 1 n (λ u lo hi. h u (record { low = lo; high = 
 -- and the other way
 pub from-every : (P : ℕ → Type 0) (k n : ℕ) → Every P (from k n) → (i : ℕ) → i < n → P (k + i)
 from-every P k zero e i h = absurd (not-suc-le-zero h)
-from-every P k (suc n) e zero h = rw (native.Mathlib.Nat.add-zero k) (e .0)
-from-every P k (suc n) e (suc i) h = rw (native.Mathlib.Nat.add-suc k i, ← native.Mathlib.Nat.suc-add k i) (from-every P (suc k) n (e .1) i (le-of-suc-le-suc h))
+from-every P k (suc n) e zero h = rw (add-zero k) (e .0)
+from-every P k (suc n) e (suc i) h = rw (add-suc k i, ← suc-add k i) (from-every P (suc k) n (e .1) i (le-of-suc-le-suc h))
 
 pub sum-same : (n : ℕ) (f g : ℕ → ℕ) → ((u : ℕ) → In n u → f u ≡ g u) → sum (upTo n) f ≡ sum (upTo n) g
 sum-same n f g h = sum-ext (upTo n) f g (every-upTo (λ u. f u ≡ g u) n h)
 
 from-last : (k n : ℕ) (f : ℕ → ℕ) → sum (from k (suc n)) f ≡ sum (from k n) f + f (k + n)
-from-last k zero f = omega (arith, ap f (native.Mathlib.Nat.add-zero k))
-from-last k (suc n) f = omega (arith, from-last (suc k) n f, ap f (native.Mathlib.Nat.add-suc k n ∙ sym (native.Mathlib.Nat.suc-add k n)))
+from-last k zero f = omega (arith, ap f (add-zero k))
+from-last k (suc n) f = omega (arith, from-last (suc k) n f, ap f (add-suc k n ∙ sym (suc-add k n)))
 
 -- the last term
 pub sum-last : (n : ℕ) (f : ℕ → ℕ) → sum (upTo (suc n)) f ≡ sum (upTo n) f + f (suc n)
@@ -124,6 +133,12 @@ sum-change (suc n) m f g i h = go (ℕ-discrete m (suc n)) (λ k. sum-change n m
 -- all terms but one are 0
 pub sum-one : (n m : ℕ) (f : ℕ → ℕ) → In n m → ((u : ℕ) → In n u → u ≢ m → f u ≡ 0) → sum (upTo n) f ≡ f m
 sum-one n m f i h = omega (arith, sum-change n m f (λ u. 0) i h, sum-none (upTo n))
+
+-- an entry of a list of numbers that are at most B, or 0 past its end
+pub getD-bound : {B : ℕ} (xs : List ℕ) (i : ℕ) → Every (λ x. x ≤ B) xs → getD xs i 0 ≤ B
+getD-bound [] i e = omega arith
+getD-bound (x ∷ xs) zero e = e .0
+getD-bound (x ∷ xs) (suc i) e = getD-bound xs i (e .1)
 
 -- ---- tables: f 1, f 2, .., f n
 

@@ -24,6 +24,10 @@ from k (suc n) = k ∷ from (suc k) n
 abbrev pub upTo : ℕ → List ℕ
 upTo n = from 1 n
 
+-- f 0, f 1, .., n of them
+abbrev pub listOf : {A : Type 0} → ℕ → (ℕ → A) → List A
+listOf n f = map f (from 0 n)
+
 -- 1 for a test that passes, 0 for one that fails
 abbrev pub bit : Bool → ℕ
 bit true = 1

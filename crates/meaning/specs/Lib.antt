@@ -2,4 +2,10 @@ pub mod Plan
 pub mod Joined
 pub mod Kinds
 pub mod Moves
+pub mod Paths
+pub mod Labels
+pub mod Components
+pub mod Holds
+pub mod Bounds
 pub mod MoveLaws
+pub mod Deltas

@@ -1,12 +1,12 @@
 -- Document 01, "Moves and rows", and what the call leaves in the lent memory.
 -- Assumes nothing.
-use Prim.Native.Nat.{ℕ, _-_}
+use Prim.Native.Nat.{ℕ, _+_, _-_, _*_, _/_}
 use mathlib.Core.List.{List, [], _∷_, _++_}
 use mathlib.Core.Bool.{Bool, false, cond, not}
 use lib.Dec.{eqb}
 use lib.IntN.{ℤ, pos, _-ℤ_}
-use lib.ListN.{set}
-use Rattle.lists.specs.Sums.{at, bit, count}
+use lib.ListN.{length, getD, set}
+use Rattle.lists.specs.Sums.{at, bit, listOf, count}
 use Rattle.terms.specs.Moves.{moveOf, status}
 use Rattle.terms.specs.declared.Region.{Region}
 use Rattle.terms.specs.declared.Sector.{Sector}
@@ -16,12 +16,22 @@ use Rattle.meaning.specs.Plan.{Constraint, Plan, regions}
 use Rattle.meaning.specs.Joined.{labels}
 use Rattle.meaning.specs.Kinds.{border, counts, loads, violation, holds, total, regionViolation}
 
--- three numbers a move
+-- how many numbers of the flat lists a move, a row and a verdict take
+abbrev pub moveLength : ℕ
+moveLength = 3
+
+abbrev pub rowLength : ℕ
+rowLength = 4
+
+abbrev pub verdictLength : ℕ
+verdictLength = 2
+
+-- move k, from 0, of the flat list
+abbrev pub moveAt : Plan → List ℕ → ℕ → Move
+moveAt P xs k = moveOf (P .R) (P .S) (getD xs (moveLength * k) 0) (getD xs (moveLength * k + 1) 0) (getD xs (moveLength * k + 2) 0)
+
 unfoldable pub movesOf : Plan → List ℕ → List Move
-movesOf P [] = []
-movesOf P (kind ∷ []) = []
-movesOf P (kind ∷ a ∷ []) = []
-movesOf P (kind ∷ a ∷ b ∷ rest) = moveOf (P .R) (P .S) kind a b ∷ movesOf P rest
+movesOf P xs = listOf (length xs / moveLength) (moveAt P xs)
 
 -- region v is given to sector c
 abbrev pub recolour : List ℕ → ℕ → ℕ → List ℕ

@@ -1,10 +1,10 @@
 -- Document 01, "The plan": a plan and its parts, from the flat lists of numbers.
 -- Assumes nothing.
-use Prim.Native.Nat.{ℕ, _≤_, _<_}
+use Prim.Native.Nat.{ℕ, _+_, _*_, _/_, _≤_, _<_}
 use mathlib.Core.Path.{_≡_}
-use mathlib.Core.List.{List, [], _∷_}
-use lib.ListN.{length}
-use Rattle.lists.specs.Sums.{In, at, upTo, Every}
+use mathlib.Core.List.{List}
+use lib.ListN.{length, getD}
+use Rattle.lists.specs.Sums.{In, at, upTo, listOf, Every}
 
 -- two regions that share a face, and the area of the face
 pub record Edge : Type 0 where
@@ -27,21 +27,32 @@ pub record Plan : Type 0 where
   pub edges : List Edge
   pub constraints : List Constraint
 
--- three numbers an edge
-unfoldable pub edgesOf : List ℕ → List Edge
-edgesOf [] = []
-edgesOf (a ∷ []) = []
-edgesOf (a ∷ b ∷ []) = []
-edgesOf (a ∷ b ∷ area ∷ rest) = record { a = a; b = b; area = area } ∷ edgesOf rest
+-- how many numbers of the flat lists an edge and a constraint take
+abbrev pub edgeLength : ℕ
+edgeLength = 3
 
--- four numbers a constraint
+abbrev pub constraintLength : ℕ
+constraintLength = 4
+
+-- edge k, from 0, of the flat list
+abbrev pub edgeAt : List ℕ → ℕ → Edge
+edgeAt xs k = record { a = getD xs (edgeLength * k) 0; b = getD xs (edgeLength * k + 1) 0; area = getD xs (edgeLength * k + 2) 0 }
+
+-- constraint k, from 0, of the flat list
+abbrev pub constraintAt : List ℕ → ℕ → Constraint
+constraintAt xs k =
+    record {
+      kind = getD xs (constraintLength * k) 0;
+      relation = getD xs (constraintLength * k + 1) 0;
+      limit = getD xs (constraintLength * k + 2) 0;
+      weight = getD xs (constraintLength * k + 3) 0;
+    }
+
+unfoldable pub edgesOf : List ℕ → List Edge
+edgesOf xs = listOf (length xs / edgeLength) (edgeAt xs)
+
 unfoldable pub constraintsOf : List ℕ → List Constraint
-constraintsOf [] = []
-constraintsOf (kind ∷ []) = []
-constraintsOf (kind ∷ relation ∷ []) = []
-constraintsOf (kind ∷ relation ∷ limit ∷ []) = []
-constraintsOf (kind ∷ relation ∷ limit ∷ weight ∷ rest) =
-    record { kind = kind; relation = relation; limit = limit; weight = weight } ∷ constraintsOf rest
+constraintsOf xs = listOf (length xs / constraintLength) (constraintAt xs)
 
 -- the plan of the flat lists
 abbrev pub planOf : ℕ → ℕ → List ℕ → List ℕ → List ℕ → Plan
@@ -56,28 +67,57 @@ regions P = upTo (P .R)
 abbrev pub sectors : Plan → List ℕ
 sectors P = upTo (P .S)
 
+-- ---- the limits
+
+abbrev pub mostRegions : ℕ
+mostRegions = 512
+
+abbrev pub mostSectors : ℕ
+mostSectors = 64
+
+abbrev pub mostWorkload : ℕ
+mostWorkload = 1_000_000
+
+abbrev pub mostEdges : ℕ
+mostEdges = 2_048
+
+abbrev pub mostArea : ℕ
+mostArea = 1_000_000
+
+abbrev pub mostConstraints : ℕ
+mostConstraints = 16
+
+abbrev pub mostLimit : ℕ
+mostLimit = 100_000_000_000
+
+abbrev pub mostWeight : ℕ
+mostWeight = 1_000
+
+abbrev pub mostMoves : ℕ
+mostMoves = 4_096
+
 -- an edge's ends are two regions, the lower first
 pub record EdgeLimits (R : ℕ) (e : Edge) : Type 0 where
   pub low : 1 ≤ e .a
   pub rise : e .a < e .b
   pub high : e .b ≤ R
-  pub area : e .area ≤ 1000000
+  pub area : In mostArea (e .area)
 
 pub record ConstraintLimits (k : Constraint) : Type 0 where
   pub kind : In 4 (k .kind)
   pub relation : In 6 (k .relation)
-  pub limit : k .limit ≤ 100000000000
-  pub weight : In 1000 (k .weight)
+  pub limit : k .limit ≤ mostLimit
+  pub weight : In mostWeight (k .weight)
 
--- the limits that document 01 sets
+-- a plan within the limits
 pub record Limits (P : Plan) : Type 0 where
-  pub R : In 512 (P .R)
-  pub S : In 64 (P .S)
+  pub R : In mostRegions (P .R)
+  pub S : In mostSectors (P .S)
   pub workloads : length (P .workloads) ≡ P .R
-  pub workload : Every (λ w. w ≤ 1000000) (P .workloads)
-  pub edges : length (P .edges) ≤ 2048
+  pub workload : Every (λ w. w ≤ mostWorkload) (P .workloads)
+  pub edges : length (P .edges) ≤ mostEdges
   pub edge : Every (EdgeLimits (P .R)) (P .edges)
-  pub constraints : length (P .constraints) ≤ 16
+  pub constraints : length (P .constraints) ≤ mostConstraints
   pub constraint : Every ConstraintLimits (P .constraints)
 
 -- a colouring gives each region a sector: that of region u is `at colouring u`

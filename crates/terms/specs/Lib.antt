@@ -1,4 +1,5 @@
 pub mod Plan
 pub mod Distance
 pub mod Moves
+pub mod DistanceLaws
 pub mod MoveLaws

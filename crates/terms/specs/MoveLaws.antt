@@ -9,7 +9,7 @@ use mathlib.Core.List.{[], _∷_}
 use borrow.Author.Tests.{eqb-true, eqb-false, leb-true, leb-false}
 use lib.Dec.{eqb, leb}
 use Rattle.terms.specs.Plan.{within, regionOf, sectorOf}
-use Rattle.terms.specs.Moves.{recolouring, exchange, question, ofRegion, moveOf, status, numbers}
+use Rattle.terms.specs.Moves.{noKind, noSecond, recolouring, exchange, question, ofRegion, moveOf, status, numbers}
 use Rattle.terms.specs.declared.MadeRegion.the-variants as region
 use Rattle.terms.specs.declared.MadeSector.the-variants as sector
 use Rattle.terms.specs.declared.Move.{Move}
@@ -37,7 +37,7 @@ module _ (R S kind a b : ℕ) where
   kept-exchange low high true e = ap (λ (n : ℕ). n ∷ a ∷ b ∷ []) (which 3 kind low high)
   kept-exchange low high false e = absurd (omega arith)
 
-  kept-question : kind ≡ 5 → (t : Bool) → eqb b 0 ≡ t → Kept (cond t (Ask (record { 0 = a })) (Refused 23))
+  kept-question : kind ≡ 5 → (t : Bool) → eqb b 0 ≡ t → Kept (cond t (Ask (record { 0 = a })) (Refused noSecond))
   unfolding Kept
   kept-question five true h e = rw (five, eqb-true b 0 h)
   kept-question five false h e = absurd (omega arith)
@@ -56,7 +56,7 @@ module _ (R S kind a b : ℕ) where
   kept-region low high true = kept-accepted low high (leb kind 2) refl
   kept-region low high false = λ e. absurd (omega arith)
 
-  kept-kind : (s t : Bool) → leb 1 kind ≡ s → leb kind 5 ≡ t → Kept (cond (s && t) (ofRegion R S kind (regionOf R a) b) (Refused 21))
+  kept-kind : (s t : Bool) → leb 1 kind ≡ s → leb kind 5 ≡ t → Kept (cond (s && t) (ofRegion R S kind (regionOf R a) b) (Refused noKind))
   unfolding Kept
   kept-kind true true p q = kept-region (leb-true 1 kind p) (leb-true kind 5 q) (within 1 a R)
   kept-kind true false p q = λ e. absurd (omega arith)

@@ -1,0 +1,35 @@
+-- Laws of a list that a function of 0, 1, 2, .. gives.
+-- Assumes nothing.
+use Prim.Native.Nat.{ℕ, zero, suc, _+_, _≤_, _<_}
+use native.Mathlib.Nat.{le-of-suc-le-suc, not-suc-le-zero, zero-add, add-zero, add-suc, suc-add}
+use native.Mathlib.Omega.{arith}
+use mathlib.Core.Path.{_≡_, refl, sym, ap, _∙_}
+use mathlib.Core.List.{List, [], _∷_, map}
+use lib.ListN.{length, drop, length-map}
+use Rattle.lists.specs.Sums.{from, listOf, Every}
+use Rattle.lists.specs.SumLaws.{length-from, every-from, every-map}
+
+drop-from : (k n j : ℕ) → j < n → drop j (from k n) ≡ (k + j) ∷ drop (suc j) (from k n)
+drop-from k zero j h = absurd (not-suc-le-zero h)
+drop-from k (suc n) zero h = rw (add-zero k)
+drop-from k (suc n) (suc j) h = drop-from (suc k) n j (le-of-suc-le-suc h) ∙ rw (suc-add k j, add-suc k j)
+
+module _ {A : Type 0} where
+  drop-map : (f : ℕ → A) (j : ℕ) (xs : List ℕ) → drop j (map f xs) ≡ map f (drop j xs)
+  drop-map f zero xs = refl
+  drop-map f (suc j) [] = refl
+  drop-map f (suc j) (x ∷ xs) = drop-map f j xs
+
+  pub length-listOf : (n : ℕ) (f : ℕ → A) → length (listOf n f) ≡ n
+  length-listOf n f = length-map (from 0 n) f ∙ length-from 0 n
+
+  -- from index j on: the element there, and what follows it
+  pub drop-listOf : (n : ℕ) (f : ℕ → A) (j : ℕ) → j < n → drop j (listOf n f) ≡ f j ∷ drop (suc j) (listOf n f)
+  drop-listOf n f j h =
+      drop-map f j (from 0 n)
+      ∙ ap (map f) (drop-from 0 n j h)
+      ∙ ap (λ (i : ℕ). f i ∷ map f (drop (suc j) (from 0 n))) (zero-add j)
+      ∙ ap (λ (l : List A). f j ∷ l) (sym (drop-map f (suc j) (from 0 n)))
+
+  pub every-listOf : (P : A → Type 0) (n : ℕ) (f : ℕ → A) → ((k : ℕ) → k < n → P (f k)) → Every P (listOf n f)
+  every-listOf P n f h = every-map P f (from 0 n) (every-from (λ k. P (f k)) 0 n (λ u lo hi. h u (omega arith)))
