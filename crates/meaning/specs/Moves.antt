@@ -30,6 +30,7 @@ verdictLength = 2
 abbrev pub moveAt : Plan → List ℕ → ℕ → Move
 moveAt P xs k = moveOf (P .R) (P .S) (getD xs (moveLength * k) 0) (getD xs (moveLength * k + 1) 0) (getD xs (moveLength * k + 2) 0)
 
+-- the moves of the flat list, in its order
 unfoldable pub movesOf : Plan → List ℕ → List Move
 movesOf P xs = listOf (length xs / moveLength) (moveAt P xs)
 
@@ -109,14 +110,16 @@ unfoldable pub last : List ℕ → List Move → List ℕ
 last col [] = col
 last col (m ∷ ms) = last (next col m) ms
 
--- two numbers a constraint: 1 or 0 for holds, then its violation
+-- the verdict on a constraint: 1 or 0 for holds, then its violation
 unfoldable pub verdict : Plan → List ℕ → Constraint → List ℕ
 verdict P col k = bit (holds P col k) ∷ violation P col k ∷ []
 
+-- the verdicts on some constraints, in their order
 unfoldable pub verdictsOf : Plan → List ℕ → List Constraint → List ℕ
 verdictsOf P col [] = []
 verdictsOf P col (k ∷ ks) = verdict P col k ++ verdictsOf P col ks
 
+-- the verdicts on all constraints of a plan
 abbrev pub verdicts : Plan → List ℕ → List ℕ
 verdicts P col = verdictsOf P col (P .constraints)
 

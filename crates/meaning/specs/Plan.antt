@@ -48,9 +48,11 @@ constraintAt xs k =
       weight = getD xs (constraintLength * k + 3) 0;
     }
 
+-- the edges of the flat list, in its order
 unfoldable pub edgesOf : List ℕ → List Edge
 edgesOf xs = listOf (length xs / edgeLength) (edgeAt xs)
 
+-- the constraints of the flat list, in its order: a constraint is known by its place in it
 unfoldable pub constraintsOf : List ℕ → List Constraint
 constraintsOf xs = listOf (length xs / constraintLength) (constraintAt xs)
 
