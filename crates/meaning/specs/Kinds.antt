@@ -30,9 +30,13 @@ whole P = sum (regions P) (at (P .workloads))
 abbrev pub crosses : List ℕ → Edge → Bool
 crosses col e = not (eqb (at col (e .a)) (at col (e .b)))
 
+-- the summed area of the edges that pass a test
+abbrev pub areaOf : List Edge → (Edge → Bool) → ℕ
+areaOf edges p = sum edges (λ e. cond (p e) (e .area) 0)
+
 -- T: the summed area of the edges whose two ends differ in sector
 unfoldable pub border : Plan → List ℕ → ℕ
-border P col = sum (P .edges) (λ e. cond (crosses col e) (e .area) 0)
+border P col = areaOf (P .edges) (crosses col)
 
 -- NCC(1), .., NCC(S)
 unfoldable pub counts : Plan → List ℕ → List ℕ
@@ -78,7 +82,7 @@ total P col = sum (P .constraints) (λ k. k .weight * violation P col k)
 
 -- the area of v's edges that lead to another sector
 unfoldable pub borderOf : Plan → List ℕ → ℕ → ℕ
-borderOf P col v = sum (P .edges) (λ e. cond ((eqb (e .a) v || eqb (e .b) v) && crosses col e) (e .area) 0)
+borderOf P col v = areaOf (P .edges) (λ e. (eqb (e .a) v || eqb (e .b) v) && crosses col e)
 
 -- what region v, in sector c, has by the kind of a constraint
 unfoldable pub partOf : Plan → List ℕ → ℕ → ℕ → Constraint → ℕ
