@@ -1,4 +1,5 @@
 pub mod Sums
+pub mod Tests
 pub mod SumLaws
 pub mod ListLaws
-pub mod Tests
+pub mod Places

@@ -1,8 +1,12 @@
--- Laws of values that a test picks.
+-- Laws of tests and of values that a test picks.
 -- Assumes nothing.
-use Prim.Native.Nat.{ℕ, _≤_}
+use Prim.Native.Nat.{ℕ, _+_, _≤_}
 use native.Mathlib.Omega.{arith}
-use mathlib.Core.Bool.{Bool, true, false, cond}
+use mathlib.Core.Path.{_≡_, refl, sym}
+use mathlib.Core.Logic.{_≢_, _⊎_, inl, inr, _↔_}
+use mathlib.Core.Bool.{Bool, true, false, cond, not, _&&_, _||_, and-eq-true-iff}
+use borrow.Author.Tests.{eqb-true, eqb-false, eq-eqb}
+use lib.Dec.{eqb}
 use Rattle.lists.specs.Sums.{bit}
 
 -- one of two numbers that are at most B
@@ -14,3 +18,43 @@ cond-le false h k = k
 pub bit-le : (t : Bool) → bit t ≤ 1
 bit-le true = omega arith
 bit-le false = omega arith
+
+-- what an equality test picks of a and b has P, if a has it where the test passes and b where it fails
+pub by-eqb : {A : Type 0} (x y : ℕ) (P : A → Type 0) (a b : A) → (x ≡ y → P a) → (x ≢ y → P b) → P (cond (eqb x y) a b)
+by-eqb x y P a b f g = go (eqb x y) refl
+  where
+    go : (t : Bool) → eqb x y ≡ t → P (cond t a b)
+    go true e = f (eqb-true x y e)
+    go false e = g (eqb-false x y e)
+
+-- two tests that pass together are equal
+pub test-same : (s t : Bool) → (s ≡ true → t ≡ true) → (t ≡ true → s ≡ true) → s ≡ t
+test-same true t f g = sym (f refl)
+test-same false true f g = g refl
+test-same false false f g = refl
+
+-- where one of two tests passes, it is the first or the second
+pub or-cases : (s t : Bool) → s || t ≡ true → (s ≡ true) ⊎ (t ≡ true)
+or-cases true t h = inl h
+or-cases false t h = inr h
+
+-- two equality tests pass exactly where both equations hold
+pub eqb-both : (a b c d : ℕ) → (eqb a b && eqb c d ≡ true) ↔ ((a ≡ b) × (c ≡ d))
+eqb-both a b c d = (
+  λ h. let t = and-eq-true-iff (eqb a b) (eqb c d) .0 h in (eqb-true a b (t .0), eqb-true c d (t .1)),
+  λ e. and-eq-true-iff (eqb a b) (eqb c d) .1 (eq-eqb a b (e .0), eq-eqb c d (e .1)),
+)
+
+-- where two equations hold exactly where two others do, their tests are equal
+pub eqb-alike : {a b c d a′ b′ c′ d′ : ℕ} → ((a ≡ b) × (c ≡ d)) ↔ ((a′ ≡ b′) × (c′ ≡ d′)) → (eqb a b && eqb c d) ≡ (eqb a′ b′ && eqb c′ d′)
+eqb-alike {a} {b} {c} {d} {a′} {b′} {c′} {d′} e =
+    test-same _ _ (λ t. eqb-both a′ b′ c′ d′ .1 (e .0 (eqb-both a b c d .0 t))) (λ t. eqb-both a b c d .1 (e .1 (eqb-both a′ b′ c′ d′ .0 t)))
+
+-- an equality test is the same either way round
+pub eqb-sym : (a b : ℕ) → eqb a b ≡ eqb b a
+eqb-sym a b = test-same _ _ (λ h. eq-eqb b a (sym (eqb-true a b h))) (λ h. eq-eqb a b (sym (eqb-true b a h)))
+
+-- where a test fails, and where it passes, are all cases
+pub cond-parts : (t : Bool) (n : ℕ) → cond (not t) n 0 + cond t n 0 ≡ n
+cond-parts true n = omega arith
+cond-parts false n = omega arith

@@ -4,7 +4,7 @@ use Prim.Native.Nat.{ℕ, _-_, _*_, _≤_}
 use native.Mathlib.Nat.{mul-le-mul}
 use native.Mathlib.Omega.{arith}
 use mathlib.Core.List.{List}
-use mathlib.Core.Bool.{Bool, cond, not, _&&_, _||_}
+use mathlib.Core.Bool.{Bool, cond, not, _&&_}
 use lib.Dec.{eqb}
 use Rattle.lists.specs.Sums.{at, sum, count}
 use Rattle.lists.specs.SumLaws.{few-bound, every-all, every-turn, length-from, getD-bound}
@@ -13,7 +13,7 @@ use Rattle.terms.specs.Distance.{stands, distance}
 use Rattle.terms.specs.DistanceLaws.{distance-bound}
 use Rattle.meaning.specs.Plan.{Edge, Constraint, Plan, regions, sectors, mostRegions, mostSectors, mostWorkload, mostEdges, mostArea, mostConstraints, mostLimit, mostWeight, Limits}
 use Rattle.meaning.specs.Joined.{labels, leads}
-use Rattle.meaning.specs.Kinds.{ncc, nccAll, load, whole, crosses, border, offBalance, deviation, connected, bounded, byKind, violation, total, borderOf, partOf, regionViolation}
+use Rattle.meaning.specs.Kinds.{ncc, nccAll, load, whole, crosses, border, offBalance, deviation, connected, bounded, byKind, violation, total, leadsTo, borderOf, partOf, regionViolation}
 use Rattle.meaning.specs.Components.{connected-all, deviation-all, bounded-all}
 
 -- what is due to a kind is at most B where what is due to each of the four is
@@ -111,7 +111,7 @@ module _ (P : Plan) (l : Limits P) where
       part-bound : (v c : ℕ) → partOf P col v c k ≤ 6432768000064
       unfolding partOf borderOf
       part-bound v c =
-          by-kind-bound (k .kind) (omega (arith, ncc-bound c)) (omega (arith, edges-bound (λ e. (eqb (e .a) v || eqb (e .b) v) && crosses col e)))
+          by-kind-bound (k .kind) (omega (arith, ncc-bound c)) (omega (arith, edges-bound (leadsTo (λ w. not (eqb (at col w) (at col v))) v)))
           (omega (arith, balance-bound c)) (omega (arith, reach-bound c))
 
     -- the total is at most 2 * 10 ^ 17

@@ -80,9 +80,13 @@ holds P col k = eqb (violation P col k) 0
 unfoldable pub total : Plan → List ℕ → ℕ
 total P col = sum (P .constraints) (λ k. k .weight * violation P col k)
 
+-- an edge leads from region v to one that passes the test
+unfoldable pub leadsTo : (ℕ → Bool) → ℕ → Edge → Bool
+leadsTo test v e = (eqb (e .a) v && test (e .b)) || (eqb (e .b) v && test (e .a))
+
 -- the area of v's edges that lead to another sector
 unfoldable pub borderOf : Plan → List ℕ → ℕ → ℕ
-borderOf P col v = areaOf (P .edges) (λ e. (eqb (e .a) v || eqb (e .b) v) && crosses col e)
+borderOf P col v = areaOf (P .edges) (leadsTo (λ w. not (eqb (at col w) (at col v))) v)
 
 -- what region v, in sector c, has by the kind of a constraint
 unfoldable pub partOf : Plan → List ℕ → ℕ → ℕ → Constraint → ℕ

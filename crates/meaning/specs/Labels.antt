@@ -1,20 +1,21 @@
 -- `labels` is right: the label of a region is the smallest region that it is joined to.
 -- Assumes nothing.
-use Prim.Native.Nat.{ℕ, suc, _≤_, _<_, min, max}
+use Prim.Native.Nat.{ℕ, _≤_, min, max}
 use native.Mathlib.Omega.{arith}
 use native.Mathlib.Decide.{decLe}
-use mathlib.Core.Path.{_≡_, refl, sym, ap, _∙_, subst, subst₂}
+use mathlib.Core.Path.{_≡_, refl, sym, ap, _∙_, subst₂}
 use mathlib.Core.List.{List, [], _∷_}
 use mathlib.Core.Logic.{_≢_, _⊎_, inl, inr, ⊎-elim, _↔_}
 use mathlib.Core.Bool.{true}
 use borrow.Author.Tests.{eqb-true, eq-eqb}
-use lib.ListN.{length, getD, length-map}
-use lib.Seq.{ext-getD}
+use lib.ListN.{length, length-map}
 use Rattle.lists.specs.Sums.{In, at, upTo}
 use Rattle.lists.specs.SumLaws.{length-from, at-upTo, at-map}
-use Rattle.meaning.specs.Plan.{Edge}
+use Rattle.lists.specs.Tests.{by-eqb}
+use Rattle.lists.specs.Places.{ext-at}
+use Rattle.meaning.specs.Plan.{Edge, Plan, Limits}
 use Rattle.meaning.specs.Joined.{Neighbours, Joined, itself, along, instead, merge, takeIn, takeAll, labels, inComponent}
-use Rattle.meaning.specs.Paths.{Ends, neighbours-sym, neighbours-in, joined-trans, joined-sym, joined-in, by-eqb}
+use Rattle.meaning.specs.Paths.{Ends, limits-ends, neighbours-in, neighbours-far, joined-trans, joined-sym, joined-in}
 
 -- ls are the right labels
 pub record Labelled (edges : List Edge) (col ls : List ℕ) : Type 0 where
@@ -93,7 +94,7 @@ module _ {edges : List Edge} {col : List ℕ} (ends : Ends (length col) edges) w
         in-a = neighbours-in edges (e .a) (e .b) ends link
 
         in-b : In (length col) (e .b)
-        in-b = neighbours-in edges (e .b) (e .a) ends (neighbours-sym edges (e .a) (e .b) link)
+        in-b = neighbours-far edges (e .a) (e .b) ends link
 
         across : Joined edges col large small
         across =
@@ -115,7 +116,7 @@ module _ {edges : List Edge} {col : List ℕ} (ends : Ends (length col) edges) w
         kept u w h t =
             new u (neighbours-in edges u w ends h)
             ∙ ap (instead large small) t
-            ∙ sym (new w (neighbours-in edges w u ends (neighbours-sym edges u w h)))
+            ∙ sym (new w (neighbours-far edges u w ends h))
 
     -- one edge is taken in
     taken : Stage edges col es (takeIn col e ls)
@@ -160,6 +161,10 @@ labels-right edges col ends =
     let s = taken-all ends edges (start edges col) in
     record { size = s .size; joined = s .joined; least = λ v u h j. rw (one-label s j) (s .high u (joined-in ends j h)) }
 
+-- the labels of a plan's colouring are right
+pub plan-labels : {P : Plan} → Limits P → (col : List ℕ) → length col ≡ P .R → Labelled (P .edges) col (labels (P .edges) col)
+plan-labels {P} l col size = labels-right (P .edges) col (rw size (limits-ends P l))
+
 module _ {edges : List Edge} {col : List ℕ} where
   -- two regions have one label exactly when they are joined
   pub label-joined : {ls : List ℕ} → Labelled edges col ls → {u w : ℕ} → In (length col) u → In (length col) w → (at ls u ≡ at ls w) ↔ Joined edges col u w
@@ -170,13 +175,8 @@ module _ {edges : List Edge} {col : List ℕ} where
 
   -- there is one list of right labels
   pub labelled-unique : {a b : List ℕ} → Labelled edges col a → Labelled edges col b → a ≡ b
-  labelled-unique {a} {b} r s = ext-getD 0 a b (r .size ∙ sym (s .size)) go
-    where
-      same : (u : ℕ) → In (length col) u → at a u ≡ at b u
-      same u h = omega (arith, r .least u (at b u) h (s .joined u h), s .least u (at a u) h (r .joined u h))
-
-      go : (i : ℕ) → i < length a → getD a i 0 ≡ getD b i 0
-      go i h = subst (λ (k : ℕ). getD a k 0 ≡ getD b k 0) (omega arith) (same (suc i) (record { low = omega arith; high = omega (arith, r .size) }))
+  labelled-unique {a} {b} r s =
+      ext-at a b (r .size) (s .size) (λ u h. omega (arith, r .least u (at b u) h (s .joined u h), s .least u (at a u) h (r .joined u h)))
 
 -- a component is a largest set of joined regions
 pub component-joined : (edges : List Edge) (col : List ℕ) → Ends (length col) edges → {u w : ℕ} → In (length col) u → In (length col) w

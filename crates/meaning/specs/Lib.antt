@@ -9,3 +9,8 @@ pub mod Holds
 pub mod Bounds
 pub mod MoveLaws
 pub mod Deltas
+pub mod Faces
+pub mod Put
+pub mod PutCounts
+pub mod Areas
+pub mod Recoloured

@@ -6,7 +6,7 @@ use mathlib.Core.List.{List, [], _∷_}
 use mathlib.Core.Bool.{Bool, true, false, not, false≢true}
 use borrow.Author.Tests.{eq-eqb}
 use lib.Dec.{eqb}
-use lib.IntN.{ℤ, pos, negℤ, _+ℤ_, _-ℤ_, +ℤ-assoc, +ℤ-comm, +ℤ-invr, -ℤ-+ℤ-cancel}
+use lib.IntN.{ℤ, pos, negℤ, _+ℤ_, _-ℤ_, +ℤ-assoc, +ℤ-comm, -ℤ-+ℤ-cancel}
 use lib.Seq.{set-getD}
 use Rattle.lists.specs.Sums.{at, bit, upTo}
 use Rattle.lists.specs.SumLaws.{sum-zero, every-all}
@@ -18,7 +18,7 @@ use Rattle.terms.specs.declared.Move.the-variants.{Recolour, Exchange, Ask, Ref
 use Rattle.meaning.specs.Plan.{Plan}
 use Rattle.meaning.specs.Joined.{labels}
 use Rattle.meaning.specs.Kinds.{total}
-use Rattle.meaning.specs.Moves.{recolour, swap, tried, made, next, delta, differing, relabelled, row, last}
+use Rattle.meaning.specs.Moves.{recolour, swap, made, next, delta, differing, relabelled, row, last}
 
 -- the sector of a region
 abbrev sectorOf : List ℕ → Region → Sector

@@ -8,8 +8,6 @@ use lib.IntN.{ℤ, pos, _-ℤ_}
 use lib.ListN.{length, getD, set}
 use Rattle.lists.specs.Sums.{at, bit, listOf, count}
 use Rattle.terms.specs.Moves.{moveOf, status}
-use Rattle.terms.specs.declared.Region.{Region}
-use Rattle.terms.specs.declared.Sector.{Sector}
 use Rattle.terms.specs.declared.Move.{Move}
 use Rattle.terms.specs.declared.Move.the-variants.{Recolour, Exchange, Ask, Refused}
 use Rattle.meaning.specs.Plan.{Constraint, Plan, regions}

@@ -4,10 +4,7 @@ use Prim.Native.Nat.{ℕ}
 use native.Mathlib.Omega.{arith}
 use mathlib.Core.Path.{_≡_, refl, sym, _∙_}
 use mathlib.Core.List.{List, _∷_}
-use mathlib.Core.Logic.{_≢_, inl, inr}
-use mathlib.Core.Bool.{Bool, true, false, cond}
-use borrow.Author.Tests.{eqb-true, eqb-false}
-use lib.Dec.{eqb}
+use mathlib.Core.Logic.{inl, inr}
 use Rattle.lists.specs.Sums.{In, at, Every}
 use Rattle.lists.specs.SumLaws.{every-turn}
 use Rattle.meaning.specs.Plan.{Edge, Plan, Limits}
@@ -33,6 +30,10 @@ neighbours-in (e ∷ es) u w i (inl h) = rw (h .0) (i .0 .0)
 neighbours-in (e ∷ es) u w i (inr (inl h)) = rw (h .0) (i .0 .1)
 neighbours-in (e ∷ es) u w i (inr (inr h)) = neighbours-in es u w (i .1) h
 
+-- and so is its neighbour
+pub neighbours-far : {R : ℕ} (edges : List Edge) (u w : ℕ) → Ends R edges → Neighbours edges u w → In R w
+neighbours-far edges u w ends n = neighbours-in edges w u ends (neighbours-sym edges u w n)
+
 module _ {edges : List Edge} {col : List ℕ} where
   -- if u is joined to w, and w to v, then u is joined to v
   pub joined-trans : {u w v : ℕ} → Joined edges col u w → Joined edges col w v → Joined edges col u v
@@ -47,17 +48,9 @@ module _ {edges : List Edge} {col : List ℕ} where
   -- whatever one of 1..R is joined to is one of 1..R
   pub joined-in : {R u w : ℕ} → Ends R edges → Joined edges col u w → In R u → In R w
   joined-in e itself i = i
-  joined-in e (along n s p) i = joined-in e p (neighbours-in edges _ _ e (neighbours-sym edges _ _ n))
+  joined-in e (along n s p) i = joined-in e p (neighbours-far edges _ _ e n)
 
   -- joined regions have one sector
   pub joined-sector : {u w : ℕ} → Joined edges col u w → at col u ≡ at col w
   joined-sector itself = refl
   joined-sector (along n s p) = s ∙ joined-sector p
-
--- what an equality test picks of a and b has P, if a has it where the test passes and b where it fails
-pub by-eqb : {A : Type 0} (x y : ℕ) (P : A → Type 0) (a b : A) → (x ≡ y → P a) → (x ≢ y → P b) → P (cond (eqb x y) a b)
-by-eqb x y P a b f g = go (eqb x y) refl
-  where
-    go : (t : Bool) → eqb x y ≡ t → P (cond t a b)
-    go true e = f (eqb-true x y e)
-    go false e = g (eqb-false x y e)

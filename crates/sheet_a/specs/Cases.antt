@@ -8,7 +8,7 @@ use Rattle.terms.specs.Distance.{stands, distance}
 use Rattle.terms.specs.Moves.{recolouring, exchange, question, ofRegion, moveOf}
 use Rattle.meaning.specs.Plan.{Plan, edgesOf, constraintsOf, planOf}
 use Rattle.meaning.specs.Joined.{takeIn, takeAll, labels}
-use Rattle.meaning.specs.Kinds.{ncc, nccAll, load, whole, border, counts, loads, deviation, connected, bounded, byKind, violation, holds, total, borderOf, partOf, regionViolation}
+use Rattle.meaning.specs.Kinds.{ncc, nccAll, load, whole, border, counts, loads, deviation, connected, bounded, byKind, violation, holds, total, leadsTo, borderOf, partOf, regionViolation}
 use Rattle.meaning.specs.Moves.{movesOf, next, delta, differing, relabelled, row, cells, rows, verdict, verdictsOf, verdicts, work}
 
 -- ---- the plans
@@ -68,5 +68,5 @@ cases =
 
 -- every line of the table is as document 01 says
 pub all-right : map (λ c. c .found) cases ≡ map (λ c. numbers (c .due)) cases
-unfolding planA colouringA lone rowsA cases stands distance recolouring exchange question ofRegion moveOf edgesOf constraintsOf takeIn takeAll labels ncc nccAll load whole border counts loads deviation connected bounded byKind violation holds total borderOf partOf regionViolation movesOf next delta differing relabelled row cells rows verdict verdictsOf work
+unfolding planA colouringA lone rowsA cases stands distance recolouring exchange question ofRegion moveOf edgesOf constraintsOf takeIn takeAll labels ncc nccAll load whole border counts loads deviation connected bounded byKind violation holds total leadsTo borderOf partOf regionViolation movesOf next delta differing relabelled row cells rows verdict verdictsOf work
 all-right = refl

@@ -6,7 +6,6 @@ use mathlib.Core.List.{List, [], _∷_}
 use lib.Dec.{eqb, leb}
 use Rattle.terms.specs.Plan.{within, regionOf, sectorOf}
 use Rattle.terms.specs.declared.Region.{Region}
-use Rattle.terms.specs.declared.Sector.{Sector}
 use Rattle.terms.specs.declared.MadeRegion.{MadeRegion}
 use Rattle.terms.specs.declared.MadeRegion.the-variants as region
 use Rattle.terms.specs.declared.MadeSector.{MadeSector}

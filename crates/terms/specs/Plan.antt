@@ -3,9 +3,6 @@
 use Prim.Native.Nat.{ℕ}
 use mathlib.Core.Bool.{Bool, cond, _&&_}
 use lib.Dec.{leb}
-use Rattle.terms.specs.declared.Region.{Region}
-use Rattle.terms.specs.declared.Sector.{Sector}
-use Rattle.terms.specs.declared.Relation.{Relation}
 use Rattle.terms.specs.declared.MadeRegion.{MadeRegion}
 use Rattle.terms.specs.declared.MadeRegion.the-variants as region
 use Rattle.terms.specs.declared.MadeSector.{MadeSector}

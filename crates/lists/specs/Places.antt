@@ -1,0 +1,51 @@
+-- Laws of a list of numbers, by number from 1: one of them set to another, and two lists that agree.
+-- Assumes nothing.
+use Prim.Native.Nat.{ℕ, suc, _-_, _<_}
+use native.Mathlib.Omega.{arith}
+use native.Mathlib.Decide.{ℕ-discrete}
+use mathlib.Core.Path.{_≡_, sym, _∙_, subst}
+use mathlib.Core.List.{List, map}
+use mathlib.Core.Logic.{_≢_}
+use lib.ListN.{length, getD, set, length-set}
+use lib.Seq.{getD-set-same, getD-set-other, ext-getD}
+use Rattle.lists.specs.Sums.{In, at, upTo}
+use Rattle.lists.specs.SumLaws.{length-table, at-table}
+
+module _ {n : ℕ} (l : List ℕ) (x : ℕ) {u : ℕ} (size : length l ≡ n) (i : In n u) where
+  -- what is set is there
+  pub at-set : at (set l (u - 1) x) u ≡ x
+  at-set = getD-set-same l (u - 1) x 0 (omega arith)
+
+  -- every other stays
+  pub at-set-other : {w : ℕ} → In n w → w ≢ u → at (set l (u - 1) x) w ≡ at l w
+  at-set-other {w} j ne = getD-set-other l (u - 1) (w - 1) x 0 (omega arith)
+
+-- two lists that agree at every number are equal
+pub ext-at : {n : ℕ} (k l : List ℕ) → length k ≡ n → length l ≡ n → ((u : ℕ) → In n u → at k u ≡ at l u) → k ≡ l
+ext-at {n} k l a b same = ext-getD 0 k l (a ∙ sym b) go
+  where
+    go : (i : ℕ) → i < length k → getD k i 0 ≡ getD l i 0
+    go i h = subst (λ (m : ℕ). getD k m 0 ≡ getD l m 0) (omega arith) (same (suc i) (omega arith))
+
+-- a table of which two numbers change
+pub table-change : {n a b : ℕ} (f g : ℕ → ℕ) → In n a → In n b → ((u : ℕ) → In n u → u ≢ a → u ≢ b → f u ≡ g u)
+    → map f (upTo n) ≡ set (set (map g (upTo n)) (a - 1) (f a)) (b - 1) (f b)
+table-change {n} {a} {b} f g i j same =
+    ext-at _ _ (length-table n f) (length-set once (b - 1) (f b) ∙ size) (λ u k. at-table n f u k ∙ sym (second u k (ℕ-discrete u b)))
+  where
+    old : List ℕ
+    old = map g (upTo n)
+
+    once : List ℕ
+    once = set old (a - 1) (f a)
+
+    size : length once ≡ n
+    size = length-set old (a - 1) (f a) ∙ length-table n g
+
+    first : (u : ℕ) → In n u → u ≢ b → Dec (u ≡ a) → at once u ≡ f u
+    first u k nb (yes e) = rw e (at-set old (f a) (length-table n g) i)
+    first u k nb (no na) = at-set-other old (f a) (length-table n g) i k na ∙ at-table n g u k ∙ sym (same u k na nb)
+
+    second : (u : ℕ) → In n u → Dec (u ≡ b) → at (set once (b - 1) (f b)) u ≡ f u
+    second u k (yes e) = rw e (at-set once (f b) size j)
+    second u k (no nb) = at-set-other once (f b) size j k nb ∙ first u k nb (ℕ-discrete u a)
