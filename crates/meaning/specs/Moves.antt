@@ -6,11 +6,11 @@ use mathlib.Core.Bool.{Bool, false, cond, not}
 use lib.Dec.{eqb}
 use lib.IntN.{ℤ, pos, _-ℤ_}
 use lib.ListN.{length, getD, set}
-use Rattle.lists.specs.Sums.{at, bit, listOf, count}
+use Rattle.lists.specs.Sums.{at, upTo, bit, listOf, count}
 use Rattle.terms.specs.Moves.{moveOf, status}
 use Rattle.terms.specs.declared.Move.{Move}
 use Rattle.terms.specs.declared.Move.the-variants.{Recolour, Exchange, Ask, Refused}
-use Rattle.meaning.specs.Plan.{Constraint, Plan, regions}
+use Rattle.meaning.specs.Plan.{Constraint, Plan}
 use Rattle.meaning.specs.Joined.{labels}
 use Rattle.meaning.specs.Kinds.{border, counts, loads, violation, holds, total, regionViolation}
 
@@ -69,13 +69,13 @@ delta P col (Exchange make a b) = change P col (swap col (a .0) (b .0))
 delta P col (Ask v) = pos (regionViolation P col (v .0))
 delta P col (Refused s) = pos 0
 
--- the number of regions whose labels differ
-unfoldable pub differing : Plan → List ℕ → List ℕ → ℕ
-differing P labels labels′ = count (regions P) (λ u. not (eqb (at labels u) (at labels′ u)))
+-- of R regions, how many have another label
+unfoldable pub differing : ℕ → List ℕ → List ℕ → ℕ
+differing R labels labels′ = count (upTo R) (λ u. not (eqb (at labels u) (at labels′ u)))
 
 -- the number of labels that differ before and after
 unfoldable pub relabelled : Plan → List ℕ → List ℕ → ℕ
-relabelled P col after = differing P (labels (P .edges) col) (labels (P .edges) after)
+relabelled P col after = differing (P .R) (labels (P .edges) col) (labels (P .edges) after)
 
 -- four signed numbers
 pub record Row : Type 0 where
