@@ -1,14 +1,15 @@
--- Laws of a list of numbers, by number from 1: one of them set to another, and two lists that agree.
+-- Laws of a list of numbers, by number from 1: one of them set anew, and two lists that agree.
 -- Assumes nothing.
-use Prim.Native.Nat.{ℕ, suc, _-_, _<_}
+use Prim.Native.Nat.{ℕ, zero, suc, _+_, _-_, _<_}
+use native.Mathlib.Nat.{le-of-suc-le-suc, not-suc-le-zero}
 use native.Mathlib.Omega.{arith}
 use native.Mathlib.Decide.{ℕ-discrete}
-use mathlib.Core.Path.{_≡_, sym, _∙_, subst}
-use mathlib.Core.List.{List, map}
+use mathlib.Core.Path.{_≡_, sym, ap, _∙_, subst}
+use mathlib.Core.List.{List, [], _∷_, map}
 use mathlib.Core.Logic.{_≢_}
 use lib.ListN.{length, getD, set, length-set}
 use lib.Seq.{getD-set-same, getD-set-other, ext-getD}
-use Rattle.lists.specs.Sums.{In, at, upTo}
+use Rattle.lists.specs.Sums.{In, at, upTo, sum}
 use Rattle.lists.specs.SumLaws.{length-table, at-table}
 
 module _ {n : ℕ} (l : List ℕ) (x : ℕ) {u : ℕ} (size : length l ≡ n) (i : In n u) where
@@ -49,3 +50,22 @@ table-change {n} {a} {b} f g i j same =
     second : (u : ℕ) → In n u → Dec (u ≡ b) → at (set once (b - 1) (f b)) u ≡ f u
     second u k (yes e) = rw e (at-set once (f b) size j)
     second u k (no nb) = at-set-other once (f b) size j k nb ∙ first u k nb (ℕ-discrete u a)
+
+-- ---- sums over a list of which a number is set anew
+
+-- the new sum and the old term make the old sum and the new term
+pub sum-set : (f : ℕ → ℕ) (l : List ℕ) (i x : ℕ) → i < length l → sum (set l i x) f + f (getD l i 0) ≡ sum l f + f x
+sum-set f [] i x h = absurd (not-suc-le-zero h)
+sum-set f (y ∷ l) zero x h = omega arith
+sum-set f (y ∷ l) (suc i) x h = omega (arith, sum-set f l i x (le-of-suc-le-suc h))
+
+-- so too where two are
+pub sum-set-2 : {n a b : ℕ} (f : ℕ → ℕ) (l : List ℕ) (x y : ℕ) → length l ≡ n → In n a → In n b → b ≢ a
+    → sum (set (set l (a - 1) x) (b - 1) y) f + (f (at l a) + f (at l b)) ≡ sum l f + (f x + f y)
+sum-set-2 {n} {a} {b} f l x y size i j ne =
+    omega (
+      arith,
+      sum-set f l (a - 1) x (omega arith),
+      sum-set f (set l (a - 1) x) (b - 1) y (rw (length-set l (a - 1) x) (omega arith)),
+      ap f (at-set-other l x size i j ne),
+    )

@@ -5,6 +5,8 @@ ghost use Rattle.terms.specs.Plan.{within, regionOf, sectorOf, relationO
 ghost use Rattle.terms.specs.Distance.{gap, distance};
 ghost use Rattle.terms.specs.Moves.{recolouring, exchange, question, moveOf};
 
+pub mod limits;
+
 pub fn in_limits(low: u64, x: u64, high: u64) -> bool
     ensures { λ b. ⌜ b ≡ within low x high ⌝ }
 {

@@ -1,0 +1,4 @@
+pub mod Table
+pub mod Turn
+pub mod Passed
+pub mod Valid

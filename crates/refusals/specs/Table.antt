@@ -1,0 +1,137 @@
+-- Document 01, "The call and what it refuses": the refusals in the order in which they are checked.
+-- Assumes nothing.
+use Prim.Native.Nat.{ℕ, zero, suc, _+_, _-_, _*_, _/_, _%_}
+use mathlib.Core.Bool.{Bool, cond, not, _&&_, _||_}
+use mathlib.Core.List.{List, [], _∷_, _++_}
+use lib.Dec.{eqb, leb, ltb}
+use lib.ListN.{length, getD}
+use Rattle.terms.specs.Plan.{within}
+use Rattle.meaning.specs.Plan.{Edge, edgeLength, constraintLength, edgeAt, constraintAt, mostRegions, mostSectors, mostWorkload, mostEdges, mostArea, mostConstraints, mostLimit, mostWeight, mostMoves}
+use Rattle.meaning.specs.Moves.{moveLength, rowLength, verdictLength}
+use Rattle.refusals.specs.declared.Refusal.{Refusal}
+
+-- ---- how a table is read
+
+abbrev pub refused : ℕ → ℕ → Refusal
+refused code place = record { code = code; place = place }
+
+abbrev pub none : Refusal
+none = refused 0 0
+
+-- a row of the table: its code, whether it is given, and the place that it names
+pub record Row : Type 0 where
+  pub code : ℕ
+  pub given : Bool
+  pub place : ℕ
+
+-- a row on a number or on a whole list names no place
+abbrev pub whole : ℕ → Bool → Row
+whole code right = record { code = code; given = not right; place = 0 }
+
+-- the place, from 1, of the first of the items k, k + 1, .., n of them, that is not right; 0 where all are
+unfoldable pub offFrom : ℕ → ℕ → (ℕ → Bool) → ℕ
+offFrom k zero right = 0
+offFrom k (suc n) right = cond (right k) (offFrom (suc k) n right) (suc k)
+
+abbrev pub firstOff : ℕ → (ℕ → Bool) → ℕ
+firstOff n right = offFrom 0 n right
+
+-- a row on each item of a list names the first that is not right
+abbrev pub item : ℕ → ℕ → Row
+item code place = record { code = code; given = not (eqb place 0); place = place }
+
+abbrev pub each : ℕ → ℕ → (ℕ → Bool) → Row
+each code n right = item code (firstOff n right)
+
+-- the first row that is given, or none
+unfoldable pub refusal : List Row → Refusal
+refusal [] = none
+refusal (r ∷ rs) = cond (r .given) (refused (r .code) (r .place)) (refusal rs)
+
+-- ---- the items
+
+abbrev pub workloadRight : List ℕ → ℕ → Bool
+workloadRight workloads k = leb (getD workloads k 0) mostWorkload
+
+-- strictly increasing by a, then b
+abbrev pub above : Edge → Edge → Bool
+above d e = ltb (d .a) (e .a) || (eqb (d .a) (e .a) && ltb (d .b) (e .b))
+
+unfoldable pub edgeRight : ℕ → List ℕ → ℕ → Bool
+edgeRight R edges k =
+    let e = edgeAt edges k in
+    leb 1 (e .a) && ltb (e .a) (e .b) && leb (e .b) R && within 1 (e .area) mostArea && (eqb k 0 || above (edgeAt edges (k - 1)) e)
+
+-- kinds 1 and 4 take any relation, kinds 2 and 3 relation 1 only
+abbrev pub takes : ℕ → ℕ → Bool
+takes kind relation = within 1 relation 6 && (eqb kind 1 || eqb kind 4 || eqb relation 1)
+
+unfoldable pub constraintRight : List ℕ → ℕ → Bool
+constraintRight constraints k =
+    let c = constraintAt constraints k in
+    within 1 (c .kind) 4 && takes (c .kind) (c .relation) && leb (c .limit) mostLimit && within 1 (c .weight) mostWeight
+
+abbrev pub sectorRight : ℕ → List ℕ → ℕ → Bool
+sectorRight S colouring k = within 1 (getD colouring k 0) S
+
+-- a flat list of records: whole records, and low..high of them
+abbrev pub records : ℕ → ℕ → ℕ → List ℕ → Bool
+records width low high xs = eqb (length xs % width) 0 && within low (length xs / width) high
+
+-- ---- the table
+
+-- codes 1 to 8, on a plan and its colouring
+unfoldable pub planTable : ℕ → ℕ → List ℕ → List ℕ → List ℕ → List ℕ → List Row
+planTable R S workloads edges constraints colouring =
+    whole 1 (within 1 R mostRegions)
+    ∷ whole 2 (within 1 S mostSectors)
+    ∷ whole 3 (eqb (length workloads) R)
+    ∷ each 3 (length workloads) (workloadRight workloads)
+    ∷ whole 4 (records edgeLength 0 mostEdges edges)
+    ∷ each 5 (length edges / edgeLength) (edgeRight R edges)
+    ∷ whole 6 (records constraintLength 1 mostConstraints constraints)
+    ∷ each 7 (length constraints / constraintLength) (constraintRight constraints)
+    ∷ whole 8 (eqb (length colouring) R)
+    ∷ each 8 (length colouring) (sectorRight S colouring)
+    ∷ []
+
+-- codes 9 to 12, on the moves and the room that is lent
+unfoldable pub roomTable : ℕ → ℕ → List ℕ → List ℕ → ℕ → ℕ → ℕ → List Row
+roomTable R S constraints moves rows verdicts work =
+    whole 9 (records moveLength 0 mostMoves moves)
+    ∷ whole 10 (leb (rowLength * (length moves / moveLength)) rows)
+    ∷ whole 11 (leb (verdictLength * (length constraints / constraintLength)) verdicts)
+    ∷ whole 12 (leb (R + 2 * S + 1) work)
+    ∷ []
+
+-- what a call is given: of the memory that it only writes, the room
+pub record Given : Type 0 where
+  pub R : ℕ
+  pub S : ℕ
+  pub workloads : List ℕ
+  pub edges : List ℕ
+  pub constraints : List ℕ
+  pub colouring : List ℕ
+  pub moves : List ℕ
+  pub rows : ℕ
+  pub verdicts : ℕ
+  pub work : ℕ
+
+-- the same of a call's parameters, in their order
+abbrev pub given : ℕ → ℕ → List ℕ → List ℕ → List ℕ → List ℕ → List ℕ → ℕ → ℕ → ℕ → Given
+given R S workloads edges constraints colouring moves rows verdicts work =
+    record { R = R; S = S; workloads = workloads; edges = edges; constraints = constraints; colouring = colouring; moves = moves; rows = rows; verdicts = verdicts; work = work }
+
+-- codes 1 to 12
+unfoldable pub callTable : Given → List Row
+callTable g =
+    planTable (g .R) (g .S) (g .workloads) (g .edges) (g .constraints) (g .colouring)
+    ++ roomTable (g .R) (g .S) (g .constraints) (g .moves) (g .rows) (g .verdicts) (g .work)
+
+-- what the call answers to bad input
+unfoldable pub callRefusal : Given → Refusal
+callRefusal g = refusal (callTable g)
+
+-- what writing a plan down answers to bad input
+unfoldable pub planRefusal : ℕ → ℕ → List ℕ → List ℕ → List ℕ → List ℕ → Refusal
+planRefusal R S workloads edges constraints colouring = refusal (planTable R S workloads edges constraints colouring)

@@ -1,0 +1,152 @@
+// The flat lists of a plan: whether their numbers are whole records, and the first item that is not right.
+ghost use mathlib.Core.Path.{_≡_};
+ghost use mathlib.Core.Bool.{_&&_, _||_};
+ghost use Prim.Native.Nat.{_+_, _-_, _*_, _/_, _<_};
+ghost use lib.Dec.{eqb};
+ghost use lib.ListN.{length};
+ghost use Rattle.meaning.specs.Plan.{edgeLength, constraintLength, edgeAt};
+ghost use Rattle.refusals.specs.Table.{records, firstOff, workloadRight, edgeRight, above, takes, constraintRight, sectorRight};
+use terms::Relation;
+use terms::in_limits;
+use terms::limits;
+
+fn both(a: bool, b: bool) -> bool
+    ensures { λ r. ⌜ r ≡ a && b ⌝ }
+{
+    if a { b } else { false }
+}
+
+fn either(a: bool, b: bool) -> bool
+    ensures { λ r. ⌜ r ≡ a || b ⌝ }
+{
+    if a { true } else { b }
+}
+
+// Whether the numbers are whole records of `width` numbers, `low` to `high` of them.
+pub(crate) fn whole_records(width: usize, low: u64, high: u64, numbers: &[u64]) -> bool
+    requires { ⌜ 0 < width ⌝ }
+    ensures { λ r. ⌜ r ≡ records width low high (now (numbers .entry)) ⌝ }
+{
+    let count = numbers.len() / width;
+    both(
+        numbers.len() % width == 0,
+        in_limits(low, count as u64, high),
+    )
+}
+
+// The place, from 1, of the first workload that is too large, or 0.
+pub fn first_bad_workload(workloads: &[u64]) -> u64
+    ensures { λ r. ⌜ r ≡ firstOff (length (now (workloads .entry))) (workloadRight (now (workloads .entry))) ⌝ }
+{
+    let mut k = 0;
+    while k < workloads.len() {
+        if limits::MOST_WORKLOAD < workloads[k] {
+            return k as u64 + 1;
+        }
+        k += 1;
+    }
+    0
+}
+
+fn edge_above_previous(edges: &[u64], edge: usize) -> bool
+    requires { ⌜ edgeLength * edge + 2 < length (now edges) ⌝ }
+    ensures { λ r. ⌜ r ≡ eqb edge 0 || above (edgeAt (now (edges .entry)) (edge - 1)) (edgeAt (now (edges .entry)) edge) ⌝ }
+{
+    if edge == 0 {
+        return true;
+    }
+    let at = limits::EDGE_LENGTH * edge;
+    let previous = limits::EDGE_LENGTH * (edge - 1);
+    let a = edges[at];
+    let previous_a = edges[previous];
+    either(
+        previous_a < a,
+        both(previous_a == a, edges[previous + 1] < edges[at + 1]),
+    )
+}
+
+fn edge_right(regions: u64, edges: &[u64], edge: usize) -> bool
+    requires { ⌜ edgeLength * edge + 2 < length (now edges) ⌝ }
+    ensures { λ r. ⌜ r ≡ edgeRight regions (now (edges .entry)) edge ⌝ }
+{
+    let at = limits::EDGE_LENGTH * edge;
+    let a = edges[at];
+    let b = edges[at + 1];
+    let area = edges[at + 2];
+    let ends = both(both(1 <= a, a < b), b <= regions);
+    let alone = both(ends, in_limits(1, area, limits::MOST_AREA));
+    both(alone, edge_above_previous(edges, edge))
+}
+
+// The place, from 1, of the first edge that is against its rules or not above the one before it, or 0.
+pub fn first_bad_edge(regions: u64, edges: &[u64]) -> u64
+    ensures { λ r. ⌜ r ≡ firstOff (length (now (edges .entry)) / edgeLength) (edgeRight regions (now (edges .entry))) ⌝ }
+{
+    let count = edges.len() / limits::EDGE_LENGTH;
+    let mut edge = 0;
+    while edge < count {
+        if !edge_right(regions, edges, edge) {
+            return edge as u64 + 1;
+        }
+        edge += 1;
+    }
+    0
+}
+
+fn takes_relation(kind: u64, relation: u64) -> bool
+    ensures { λ r. ⌜ r ≡ takes kind relation ⌝ }
+{
+    let any = either(kind == limits::CONNECTED, kind == limits::BOUNDED);
+    both(
+        in_limits(Relation::AT_MOST, relation, Relation::AT_LEAST),
+        either(any, relation == Relation::AT_MOST),
+    )
+}
+
+fn constraint_right(constraints: &[u64], constraint: usize) -> bool
+    requires { ⌜ constraintLength * constraint + 3 < length (now constraints) ⌝ }
+    ensures { λ r. ⌜ r ≡ constraintRight (now (constraints .entry)) constraint ⌝ }
+{
+    let at = limits::CONSTRAINT_LENGTH * constraint;
+    let kind = constraints[at];
+    let relation = constraints[at + 1];
+    let limit = constraints[at + 2];
+    let weight = constraints[at + 3];
+    let known = both(
+        in_limits(limits::CONNECTED, kind, limits::BOUNDED),
+        takes_relation(kind, relation),
+    );
+    both(
+        both(known, limit <= limits::MOST_LIMIT),
+        in_limits(1, weight, limits::MOST_WEIGHT),
+    )
+}
+
+// The place, from 1, of the first constraint that is against its rules, or 0.
+pub fn first_bad_constraint(constraints: &[u64]) -> u64
+    ensures { λ r. ⌜ r ≡ firstOff (length (now (constraints .entry)) / constraintLength) (constraintRight (now (constraints .entry))) ⌝ }
+{
+    let count = constraints.len() / limits::CONSTRAINT_LENGTH;
+    let mut constraint = 0;
+    while constraint < count {
+        if !constraint_right(constraints, constraint) {
+            return constraint as u64 + 1;
+        }
+        constraint += 1;
+    }
+    0
+}
+
+// The place, from 1, of the first sector that is not one of 1..S, or 0.
+pub fn first_bad_sector(sectors: u64, colouring: &[u64]) -> u64
+    ensures { λ r. ⌜ r ≡ firstOff (length (now (colouring .entry))) (sectorRight sectors (now (colouring .entry))) ⌝ }
+{
+    let mut region = 0;
+    while region < colouring.len() {
+        if !in_limits(1, colouring[region], sectors) {
+            return region as u64 + 1;
+        }
+        region += 1;
+    }
+    0
+}
