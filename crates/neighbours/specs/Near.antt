@@ -1,0 +1,67 @@
+-- The row of a region has its neighbours, all of them and nothing else.
+-- Assumes nothing.
+use Prim.Native.Nat.{ℕ, zero, suc, _<_}
+use native.Mathlib.Nat.{le-of-suc-le-suc, not-suc-le-zero}
+use native.Mathlib.Omega.{arith}
+use mathlib.Core.Path.{_≡_, refl, sym}
+use mathlib.Core.List.{List, [], _∷_}
+use mathlib.Core.Logic.{inl, inr}
+use mathlib.Core.Bool.{Bool, true, false, false≢true}
+use borrow.Author.Tests.{eqb-true, eq-eqb}
+use lib.Dec.{eqb}
+use lib.ListN.{length, getD}
+use Rattle.meaning.specs.Plan.{Edge}
+use Rattle.meaning.specs.Joined.{Neighbours}
+use Rattle.neighbours.specs.Table.{when, sides, near}
+
+-- where each of a list has P, and x has it if the test passes, each has it once x is in front
+each-when : (P : ℕ → Type 0) (t : Bool) (x : ℕ) (l : List ℕ) → (t ≡ true → P x) → ((k : ℕ) → k < length l → P (getD l k 0)) → (k : ℕ)
+    → k < length (when t x l) → P (getD (when t x l) k 0)
+each-when P true x l h a zero q = h refl
+each-when P true x l h a (suc k) q = a k (le-of-suc-le-suc q)
+each-when P false x l h a k q = a k q
+
+-- each entry of the row of v is a neighbour of v
+pub near-neighbours : (edges : List Edge) (v k : ℕ) → k < length (near edges v) → Neighbours edges v (getD (near edges v) k 0)
+unfolding sides
+near-neighbours [] v k q = absurd (not-suc-le-zero q)
+near-neighbours (e ∷ es) v k q =
+    each-when (Neighbours (e ∷ es) v) (eqb (e .a) v) (e .b) (when (eqb (e .b) v) (e .a) (near es v))
+    (λ t. inl (sym (eqb-true (e .a) v t), refl))
+    (each-when (Neighbours (e ∷ es) v) (eqb (e .b) v) (e .a) (near es v)
+    (λ t. inr (inl (sym (eqb-true (e .b) v t), refl)))
+    (λ j r. inr (inr (near-neighbours es v j r))))
+    k
+    q
+
+-- x is one of a list
+pub record Among (l : List ℕ) (x : ℕ) : Type 0 where
+  -- where it stands
+  pub index : ℕ
+  -- within the list
+  pub below : index < length l
+  -- and there it is
+  pub is : getD l index 0 ≡ x
+
+-- what is put in front is one
+among-first : (t : Bool) (x : ℕ) (l : List ℕ) → t ≡ true → Among (when t x l) x
+among-first true x l h = record { index = 0; below = omega arith; is = refl }
+among-first false x l h = absurd (false≢true h)
+
+-- what was one still is
+among-later : {x : ℕ} (t : Bool) (y : ℕ) (l : List ℕ) → Among l x → Among (when t y l) x
+among-later true y l m = record { index = suc (m .index); below = omega arith; is = m .is }
+among-later false y l m = m
+
+-- each neighbour of v is in the row of v
+pub neighbours-near : (edges : List Edge) (v x : ℕ) → Neighbours edges v x → Among (near edges v) x
+unfolding sides
+neighbours-near (e ∷ es) v x (inl h) =
+    rw (h .1) (among-first (eqb (e .a) v) (e .b) (when (eqb (e .b) v) (e .a) (near es v)) (eq-eqb (e .a) v (sym (h .0))))
+neighbours-near (e ∷ es) v x (inr (inl h)) =
+    rw (h .1)
+    (among-later (eqb (e .a) v) (e .b) (when (eqb (e .b) v) (e .a) (near es v))
+    (among-first (eqb (e .b) v) (e .a) (near es v) (eq-eqb (e .b) v (sym (h .0)))))
+neighbours-near (e ∷ es) v x (inr (inr h)) =
+    among-later (eqb (e .a) v) (e .b) (when (eqb (e .b) v) (e .a) (near es v))
+    (among-later (eqb (e .b) v) (e .a) (near es v) (neighbours-near es v x h))
