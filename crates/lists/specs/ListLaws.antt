@@ -5,14 +5,24 @@ use native.Mathlib.Nat.{le-of-suc-le-suc, not-suc-le-zero, zero-add, add-zero, a
 use native.Mathlib.Omega.{arith}
 use mathlib.Core.Path.{_≡_, refl, sym, ap, _∙_}
 use mathlib.Core.List.{List, [], _∷_, map}
-use lib.ListN.{length, drop, length-map}
+use lib.ListN.{length, getD, drop, length-map}
+use lib.Seq.{getD-drop}
 use Rattle.lists.specs.Sums.{from, listOf, Every}
-use Rattle.lists.specs.SumLaws.{length-from, every-from, every-map}
+use Rattle.lists.specs.SumLaws.{length-from, from-every, every-from, every-map}
 
 drop-from : (k n j : ℕ) → j < n → drop j (from k n) ≡ (k + j) ∷ drop (suc j) (from k n)
 drop-from k zero j h = absurd (not-suc-le-zero h)
 drop-from k (suc n) zero h = rw (add-zero k)
 drop-from k (suc n) (suc j) h = drop-from (suc k) n j (le-of-suc-le-suc h) ∙ rw (suc-add k j, add-suc k j)
+
+-- functions that agree along a list map it alike
+pub map-ext : {A B : Type 0} (xs : List A) (f g : A → B) → Every (λ x. f x ≡ g x) xs → map f xs ≡ map g xs
+map-ext [] f g e = refl
+map-ext (x ∷ xs) f g e = rw (e .0, map-ext xs f g (e .1))
+
+-- from index k on: k, and what follows it
+pub drop-places : (n k : ℕ) → k < n → drop k (from 0 n) ≡ k ∷ drop (suc k) (from 0 n)
+drop-places n k h = drop-from 0 n k h ∙ rw (zero-add k)
 
 module _ {A : Type 0} where
   drop-map : (f : ℕ → A) (j : ℕ) (xs : List ℕ) → drop j (map f xs) ≡ map f (drop j xs)
@@ -33,3 +43,17 @@ module _ {A : Type 0} where
 
   pub every-listOf : (P : A → Type 0) (n : ℕ) (f : ℕ → A) → ((k : ℕ) → k < n → P (f k)) → Every P (listOf n f)
   every-listOf P n f h = every-map P f (from 0 n) (every-from (λ k. P (f k)) 0 n (λ u lo hi. h u (omega arith)))
+
+  -- what every element of a mapped list has, the function gives at every element of the list
+  map-every : {B : Type 0} (P : A → Type 0) (g : B → A) (xs : List B) → Every P (map g xs) → Every (λ x. P (g x)) xs
+  map-every P g [] e = tt
+  map-every P g (x ∷ xs) e = (e .0, map-every P g xs (e .1))
+
+  -- what every element has, the function gives at each k below n
+  pub listOf-every : (P : A → Type 0) (n : ℕ) (f : ℕ → A) → Every P (listOf n f) → (k : ℕ) → k < n → P (f k)
+  listOf-every P n f e k h = rw zero-add at (from-every (λ j. P (f j)) 0 n (map-every P f (from 0 n) e) k h)
+
+  -- the element at index k is f k
+  pub getD-listOf : (n : ℕ) (f : ℕ → A) (d : A) (k : ℕ) → k < n → getD (listOf n f) k d ≡ f k
+  getD-listOf n f d k h =
+      sym (rw add-zero at (getD-drop k (listOf n f) 0 d)) ∙ ap (λ l. getD l 0 d) (drop-listOf n f k h)

@@ -4,13 +4,13 @@ use Prim.Native.Nat.{ℕ, zero, suc, _+_, _-_, _<_}
 use native.Mathlib.Nat.{le-of-suc-le-suc, not-suc-le-zero}
 use native.Mathlib.Omega.{arith}
 use native.Mathlib.Decide.{ℕ-discrete}
-use mathlib.Core.Path.{_≡_, sym, ap, _∙_, subst}
+use mathlib.Core.Path.{_≡_, refl, sym, ap, _∙_, subst}
 use mathlib.Core.List.{List, [], _∷_, map}
 use mathlib.Core.Logic.{_≢_}
 use lib.ListN.{length, getD, set, length-set}
 use lib.Seq.{getD-set-same, getD-set-other, ext-getD}
 use Rattle.lists.specs.Sums.{In, at, upTo, sum}
-use Rattle.lists.specs.SumLaws.{length-table, at-table}
+use Rattle.lists.specs.SumLaws.{sum-map, length-table, at-table}
 
 module _ {n : ℕ} (l : List ℕ) (x : ℕ) {u : ℕ} (size : length l ≡ n) (i : In n u) where
   -- what is set is there
@@ -50,6 +50,18 @@ table-change {n} {a} {b} f g i j same =
     second : (u : ℕ) → In n u → Dec (u ≡ b) → at (set once (b - 1) (f b)) u ≡ f u
     second u k (yes e) = rw e (at-set once (f b) size j)
     second u k (no nb) = at-set-other once (f b) size j k nb ∙ first u k nb (ℕ-discrete u a)
+
+-- the number of i + 1 stands at index i
+pub at-next : (xs : List ℕ) (i : ℕ) → at xs (i + 1) ≡ getD xs i 0
+at-next xs i = let e : i + 1 - 1 ≡ i = omega arith in ap (λ k. getD xs k 0) e
+
+-- a list of n numbers that has f c for each c of 1..n is the table of f
+pub table-is : (n : ℕ) (f : ℕ → ℕ) (xs : List ℕ) → length xs ≡ n → ((c : ℕ) → In n c → at xs c ≡ f c) → xs ≡ map f (upTo n)
+table-is n f xs l e = ext-at xs (map f (upTo n)) l (length-table n f) (λ c i. e c i ∙ sym (at-table n f c i))
+
+-- a sum over a list of n numbers is a sum over 1..n
+pub sum-at : (n : ℕ) (xs : List ℕ) (f : ℕ → ℕ) → length xs ≡ n → sum xs f ≡ sum (upTo n) (λ u. f (at xs u))
+sum-at n xs f l = ap (λ ys. sum ys f) (table-is n (at xs) xs l (λ c i. refl)) ∙ sum-map (at xs) (upTo n) f
 
 -- ---- sums over a list of which a number is set anew
 

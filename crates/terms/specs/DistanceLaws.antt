@@ -7,7 +7,7 @@ use mathlib.Core.Logic.{_↔_}
 use mathlib.Core.Bool.{Bool, true, false, cond, not, false≢true}
 use lib.Dec.{eqb}
 use borrow.Author.Tests.{eqb-true, eq-eqb, leb-true, le-leb, ltb-true, lt-ltb}
-use Rattle.lists.specs.Tests.{cond-le}
+use Rattle.lists.specs.Tests.{cond-le, test-same}
 use Rattle.terms.specs.Distance.{stands, distance}
 
 -- one of two numbers, each 0 exactly when its test passes
@@ -41,3 +41,8 @@ module _ (relation x t : ℕ) where
       (cond-le (eqb relation 3) (omega arith)
       (cond-le (eqb relation 4) (cond-le (eqb x t) (omega arith) (omega arith))
       (cond-le (eqb relation 5) (omega arith) (omega arith)))))
+
+-- x stands in the relation to t exactly where the test of its distance for 0 passes
+pub distance-stands : (relation x t : ℕ) → eqb (distance relation x t) 0 ≡ stands relation x t
+distance-stands relation x t =
+    test-same _ _ (λ h. distance-zero relation x t .0 (eqb-true _ 0 h)) (λ h. eq-eqb _ 0 (distance-zero relation x t .1 h))

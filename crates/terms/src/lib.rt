@@ -62,7 +62,7 @@ pub enum MadeRelation {
 }
 
 // x less t, and 0 where t is larger.
-fn excess(x: u64, t: u64) -> u64
+pub fn excess(x: u64, t: u64) -> u64
     ensures { λ r. ⌜ r ≡ x - t ⌝ }
 {
     if t < x { x - t } else { 0 }

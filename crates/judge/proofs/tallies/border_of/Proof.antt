@@ -1,0 +1,70 @@
+-- The area so far and that of the edges left make the whole area, which fits.
+use Prim.Native.Nat.{_-_, _/_}
+use native.Mathlib.Omega.{arith}
+use mathlib.Core.Bool.{cond}
+use borrow.Author.Needs.{needs}
+use lib.ListN.{length}
+use Rattle.lists.specs.ListLaws.{length-listOf, drop-listOf}
+use Rattle.lists.specs.Loops.{Summed, summed-start, summed-room, summed-turn, summed-end}
+use Rattle.meaning.specs.Plan.{edgeLength, edgesOf}
+use Rattle.meaning.specs.Kinds.{crosses}
+use Rattle.judge.specs.Small.{edge-ends, area-bound}
+use Rattle.judge.proofs.tallies.border_of.Statement.{statement}
+use Rattle.judge.proofs.tallies.border_of.Tie as tie
+
+abbrev Inv-loop : tie.InvT-loop
+Inv-loop edges colouring n area₀ k₀ area k = Summed (edgesOf edges) (λ e. cond (crosses colouring e) (e .area) 0) k area
+
+abbrev μ-loop : tie.MeasureT-loop
+μ-loop edges colouring n area₀ k₀ area k = length edges / edgeLength - k
+
+loop-holds : tie.Need-loop-holds Inv-loop μ-loop
+loop-holds c = summed-start
+
+border-at-requires : tie.Need-border-at-requires Inv-loop μ-loop
+border-at-requires c κs =
+    let l = c .before .loop in
+    let st = c .before .before .before .before in
+    let ends = edge-ends (st .args .edges .now) (st .pre) (l .k) (c .loop-test .taken) in
+    (c .loop-test .taken, (ends .0, ends .1))
+
+add-area : tie.Need-add-area Inv-loop μ-loop
+unfolding edgesOf
+add-area c =
+    let l = c .before .before .loop in
+    let st = c .before .before .before .before .before in
+    omega (
+      arith,
+      summed-room (l .inv) (drop-listOf _ _ (l .k) (c .before .loop-test .taken)) (c .border-at .ensures),
+      area-bound (st .pre) (crosses (st .args .colouring .now)),
+    )
+
+add-k : tie.Need-add-k Inv-loop μ-loop
+add-k c = search needs
+
+loop-less : tie.Need-loop-less Inv-loop μ-loop
+loop-less c = search needs
+
+loop-again : tie.Need-loop-again Inv-loop μ-loop
+unfolding edgesOf
+loop-again c =
+    let l = c .before .before .loop in
+    summed-turn (l .inv) (drop-listOf _ _ (l .k) (c .before .loop-test .taken)) (c .border-at .ensures)
+
+returns : tie.Need-returns Inv-loop μ-loop
+unfolding edgesOf
+returns c = summed-end (c .before .loop .inv) (rw length-listOf (c .loop-test .left))
+
+pub border-of-spec : {M : Type 1} → statement M
+border-of-spec =
+    tie.close
+    (tie.spec
+    Inv-loop
+    μ-loop
+    loop-holds
+    border-at-requires
+    add-area
+    add-k
+    loop-less
+    loop-again
+    returns)

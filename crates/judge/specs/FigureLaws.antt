@@ -1,0 +1,95 @@
+-- From the tallies of a colouring come its figures and its gauges, and from these its violations, its total and its verdicts.
+-- Assumes nothing.
+use Prim.Native.Nat.{ℕ, _*_, _<_}
+use native.Mathlib.Omega.{arith}
+use mathlib.Core.Path.{_≡_, refl, sym, ap, _∙_}
+use mathlib.Core.List.{List, [], _∷_, map, map-map}
+use mathlib.Core.Bool.{Bool, true, false, cond}
+use lib.Dec.{eqb}
+use lib.ListN.{length, getD}
+use Rattle.lists.specs.Sums.{from, sum, Every}
+use Rattle.lists.specs.SumLaws.{sum-ext, sum-map, every-turn, every-from}
+use Rattle.lists.specs.ListLaws.{map-ext, getD-listOf}
+use Rattle.lists.specs.Places.{sum-at}
+use Rattle.meaning.specs.Plan.{Constraint, Plan, Coloured, edgesOf, constraintAt, constraintsOf}
+use Rattle.meaning.specs.Kinds.{whole, crosses, areaOf, border, counts, loads, deviation, connected, bounded, byKind, violation, holds, total}
+use Rattle.meaning.specs.Components.{ncc-sum}
+use Rattle.meaning.specs.Moves.{verdict, verdictsOf, verdicts}
+use Rattle.judge.specs.Figures.{figuresOf, figuresBy, gaugeOf, gauges, gaugeBy, gaugesBy, constraintCount, violationBy, violationAt, totalBy, judged, verdictsBy}
+
+-- the places of the constraints in the flat list, from 0
+abbrev places : List ℕ → List ℕ
+places constraints = from 0 (constraintCount constraints)
+
+-- a number that a test picks is picked by the same test again
+cond-twice : (t : Bool) (n : ℕ) → cond t (cond t n 0) 0 ≡ cond t n 0
+cond-twice true n = refl
+cond-twice false n = refl
+
+-- the verdicts on some constraints, by their violations
+judged-verdicts : (P : Plan) (col : List ℕ) (ks : List Constraint) → judged (map (violation P col) ks) ≡ verdictsOf P col ks
+unfolding verdictsOf verdict holds
+judged-verdicts P col [] = refl
+judged-verdicts P col (k ∷ ks) = rw (judged-verdicts P col ks)
+
+module _ (P : Plan) where
+  -- the workloads make the whole workload
+  pub whole-by : length (P .workloads) ≡ P .R → sum (P .workloads) (λ w. w) ≡ whole P
+  unfolding whole
+  whole-by l = sum-at (P .R) (P .workloads) (λ w. w) l
+
+  module _ (col : List ℕ) where
+    -- the edges of a flat list make the border
+    pub border-by : (edges : List ℕ) → P .edges ≡ edgesOf edges → areaOf (edgesOf edges) (crosses col) ≡ border P col
+    unfolding border
+    border-by edges e = rw e
+
+    -- the tallies make the figures
+    pub figures-by : Coloured P col → figuresBy (P .S) (whole P) (counts P col) (loads P col) (border P col) ≡ figuresOf P col
+    unfolding figuresBy figuresOf deviation
+    figures-by k = rw (ncc-sum P col k)
+
+    -- the figures and its gauge make the violation of a constraint
+    pub violation-by : (k : Constraint) → violationBy (figuresOf P col) (gaugeOf P col k) k ≡ violation P col k
+    unfolding violationBy figuresOf gaugeOf violation connected byKind
+    violation-by k = rw (cond-twice (eqb (k .kind) 4) (bounded P col k))
+
+    module _ (constraints : List ℕ) (e : P .constraints ≡ constraintsOf constraints) where
+      -- the workloads of the sectors make the gauges
+      pub gauges-by : gaugesBy (loads P col) constraints ≡ gauges P col
+      unfolding gaugesBy gaugeBy gauges gaugeOf bounded
+      gauges-by = rw e
+
+      -- the gauge at each place is that of the constraint there
+      gauge-at : (i : ℕ) → i < constraintCount constraints → getD (gauges P col) i 0 ≡ gaugeOf P col (constraintAt constraints i)
+      unfolding gauges constraintsOf
+      gauge-at i h =
+          ap (λ l. getD l i 0) (ap (map (gaugeOf P col)) e ∙ map-map (gaugeOf P col) (constraintAt constraints) (places constraints))
+          ∙ getD-listOf (constraintCount constraints) (λ j. gaugeOf P col (constraintAt constraints j)) 0 i h
+
+      -- the figures and the gauges make the violation of each constraint
+      pub violation-at : (i : ℕ) → i < constraintCount constraints → violationAt (figuresOf P col) (gauges P col) constraints i ≡ violation P col (constraintAt constraints i)
+      violation-at i h = rw (gauge-at i h) (violation-by (constraintAt constraints i))
+
+      -- the same along all places
+      violations-at : Every (λ i. violationAt (figuresOf P col) (gauges P col) constraints i ≡ violation P col (constraintAt constraints i)) (places constraints)
+      violations-at = every-from _ 0 (constraintCount constraints) (λ i lo hi. violation-at i (omega arith))
+
+      -- the figures and the gauges make the total
+      pub total-by : totalBy (figuresOf P col) (gauges P col) constraints (constraintCount constraints) ≡ total P col
+      unfolding totalBy total constraintsOf
+      total-by =
+          sum-ext (places constraints) _ _
+          (every-turn (λ i h. ap (λ v. constraintAt constraints i .weight * v) h) (places constraints) violations-at)
+          ∙ sym (sum-map (constraintAt constraints) (places constraints) (λ k. k .weight * violation P col k))
+          ∙ ap (λ ks. sum ks (λ k. k .weight * violation P col k)) (sym e)
+
+      -- the figures and the gauges make the verdicts
+      pub verdicts-by : verdictsBy (figuresOf P col) (gauges P col) constraints (constraintCount constraints) ≡ verdicts P col
+      unfolding verdictsBy constraintsOf
+      verdicts-by =
+          ap judged
+          (map-ext (places constraints) _ _ violations-at
+          ∙ sym (map-map (violation P col) (constraintAt constraints) (places constraints))
+          ∙ ap (map (violation P col)) (sym e))
+          ∙ judged-verdicts P col (P .constraints)

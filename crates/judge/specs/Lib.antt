@@ -1,0 +1,5 @@
+pub mod Figures
+pub mod Tallies
+pub mod FigureLaws
+pub mod Small
+pub mod Judging

@@ -1,0 +1,191 @@
+-- What the judging functions take for granted: that the numbers are as small as the limits of document 01 make them.
+-- Assumes nothing.
+use Prim.Native.Nat.{ℕ, _+_, _-_, _*_, _/_, _≤_, _<_}
+use native.Mathlib.Nat.{mul-le-mul}
+use native.Mathlib.Omega.{arith}
+use mathlib.Core.Path.{_≡_, ap, _∙_}
+use mathlib.Core.List.{List}
+use mathlib.Core.Bool.{Bool, not}
+use lib.Dec.{eqb}
+use lib.ListN.{length, getD, length-map}
+use Rattle.lists.specs.Sums.{In, from, sum, Every}
+use Rattle.lists.specs.SumLaws.{few-bound, every-turn, every-map, every-from, length-from}
+use Rattle.lists.specs.ListLaws.{length-listOf, listOf-every}
+use Rattle.lists.specs.Tests.{cond-le, bit-le}
+use Rattle.lists.specs.Few.{Few, few-at, few-sum, few-table}
+use Rattle.terms.specs.Distance.{gap, stands, distance}
+use Rattle.terms.specs.DistanceLaws.{distance-bound}
+use Rattle.meaning.specs.Plan.{Edge, Constraint, Plan, Limits, ConstraintLimits, mostRegions, mostSectors, mostWorkload, mostEdges, mostArea, mostConstraints, mostLimit, mostWeight, edgeLength, edgeAt, edgesOf, constraintAt, constraintsOf}
+use Rattle.meaning.specs.Joined.{labels, leads}
+use Rattle.meaning.specs.Kinds.{ncc, nccAll, load, whole, areaOf, counts, loads, bounded, byKind}
+use Rattle.meaning.specs.Paths.{Ends, limits-ends}
+use Rattle.meaning.specs.Bounds.{count-bound, ncc-bound, load-bound, whole-bound, border-bound, deviation-bound}
+use Rattle.judge.specs.declared.Figures.{Figures}
+use Rattle.judge.specs.Figures.{figuresOf, gaugeOf, gauges, constraintCount, unweighted, violationBy, weightedAt, totalBy}
+
+-- the most workload that a sector, or the whole plan, can have
+abbrev pub mostLoad : ℕ
+mostLoad = mostRegions * mostWorkload
+
+-- the most that such a workload can be off the balance
+abbrev pub mostGap : ℕ
+mostGap = mostSectors * mostLoad
+
+-- the largest distance that such a workload can have from a limit
+abbrev pub mostDistance : ℕ
+mostDistance = mostLoad + mostLimit + 1
+
+-- the most that a constraint's gauge, or its violation, can be
+abbrev pub mostGauge : ℕ
+mostGauge = mostSectors * mostDistance
+
+-- few edges between the regions 1..R, none of a large area
+pub record SmallEdges (R : ℕ) (edges : List Edge) : Type 0 where
+  pub few : length edges ≤ mostEdges
+  pub ends : Ends R edges
+  pub area : Every (λ e. e .area ≤ mostArea) edges
+
+-- few sectors, a small whole workload, and the components and the workload of each sector as small as those of a colouring
+pub record SmallTallies (S W : ℕ) (counts loads : List ℕ) : Type 0 where
+  pub sectors : S ≤ mostSectors
+  pub whole : W ≤ mostLoad
+  pub count : Few mostSectors mostRegions counts
+  pub load : Few mostSectors mostLoad loads
+
+-- figures as small as those of a colouring
+pub record SmallFigures (F : Figures) : Type 0 where
+  pub components : F .components ≤ mostRegions
+  pub excess : F .excess ≤ mostSectors * mostRegions
+  pub border : F .border ≤ mostEdges * mostArea
+  pub deviation : F .deviation ≤ mostSectors * mostGap
+
+-- figures and gauges as small as those of a colouring, a gauge for each constraint of the flat list, and constraints within their limits
+pub record Small (F : Figures) (gauges constraints : List ℕ) : Type 0 where
+  pub figures : SmallFigures F
+  pub gauge : Few mostConstraints mostGauge gauges
+  pub size : length gauges ≡ constraintCount constraints
+  pub constraint : Every ConstraintLimits (constraintsOf constraints)
+
+-- ---- sums over the sectors
+
+module _ {loads : List ℕ} (few : Few mostSectors mostLoad loads) where
+  -- the deviation
+  pub deviation-small : {S W : ℕ} → S ≤ mostSectors → W ≤ mostLoad → sum loads (λ x. gap (S * x) W) ≤ mostSectors * mostGap
+  deviation-small {S} {W} s w = few-sum few mostGap (λ x. gap (S * x) W) (λ x h. omega (arith, mul-le-mul s h))
+
+  -- the distances from a limit
+  pub distances-small : (relation : ℕ) {limit : ℕ} → limit ≤ mostLimit → sum loads (λ x. distance relation x limit) ≤ mostGauge
+  distances-small relation {limit} l = few-sum few mostDistance _ (λ x h. omega (arith, distance-bound relation x limit))
+
+-- ---- the numbers of a plan within its limits are as small
+
+module _ (P : Plan) (l : Limits P) where
+  -- the sum of its workloads
+  pub whole-small : sum (P .workloads) (λ w. w) ≤ mostLoad
+  whole-small = few-bound mostRegions mostWorkload (P .workloads) (λ w. w) (omega (arith, l .workloads, l .R .high)) (l .workload)
+
+  -- its edges
+  pub edges-small : SmallEdges (P .R) (P .edges)
+  edges-small =
+      record { few = l .edges; ends = limits-ends P l; area = every-turn (λ e h. h .area .high) (P .edges) (l .edge) }
+
+  module _ (col : List ℕ) where
+    -- the components of each sector
+    counts-small : Few mostSectors mostRegions (counts P col)
+    unfolding counts
+    counts-small = few-table (P .S) (ncc P col) (l .S .high) (ncc-bound P l col)
+
+    -- the workload of each sector
+    pub loads-small : Few mostSectors mostLoad (loads P col)
+    unfolding loads
+    loads-small = few-table (P .S) (load P col) (l .S .high) (load-bound P l col)
+
+    -- the tallies
+    pub tallies-small : SmallTallies (P .S) (whole P) (counts P col) (loads P col)
+    tallies-small = record { sectors = l .S .high; whole = whole-bound P l; count = counts-small; load = loads-small }
+
+    -- the figures
+    figures-small : SmallFigures (figuresOf P col)
+    unfolding figuresOf nccAll
+    figures-small =
+        record {
+          components = count-bound P l (leads (labels (P .edges) col));
+          excess = few-sum counts-small mostRegions (λ n. n - 1) (λ n h. omega arith);
+          border = border-bound P l col;
+          deviation = deviation-bound P l col;
+        }
+
+    -- a gauge
+    gauge-small : (k : Constraint) → ConstraintLimits k → gaugeOf P col k ≤ mostGauge
+    unfolding gaugeOf bounded
+    gauge-small k h =
+        cond-le (eqb (k .kind) 4) (distances-small loads-small (k .relation) (h .limit)) (omega arith)
+
+    -- all gauges
+    gauges-small : Few mostConstraints mostGauge (gauges P col)
+    unfolding gauges
+    gauges-small =
+        record {
+          few = rw (length-map (P .constraints) (gaugeOf P col)) (l .constraints);
+          each = every-map _ (gaugeOf P col) (P .constraints) (every-turn gauge-small (P .constraints) (l .constraint));
+        }
+
+    -- the figures and the gauges
+    pub plan-small : (constraints : List ℕ) → P .constraints ≡ constraintsOf constraints → Small (figuresOf P col) (gauges P col) constraints
+    unfolding gauges constraintsOf
+    plan-small constraints e =
+        record {
+          figures = figures-small;
+          gauge = gauges-small;
+          size = length-map (P .constraints) (gaugeOf P col) ∙ ap length e ∙ length-listOf (constraintCount constraints) (constraintAt constraints);
+          constraint = rw e at (l .constraint);
+        }
+
+-- ---- what follows for each item, and for the sums over all
+
+-- each constraint of the flat list keeps to its limits
+pub constraint-limits : (constraints : List ℕ) → Every ConstraintLimits (constraintsOf constraints) → (i : ℕ) → i < constraintCount constraints → ConstraintLimits (constraintAt constraints i)
+unfolding constraintsOf
+constraint-limits constraints = listOf-every ConstraintLimits (constraintCount constraints) (constraintAt constraints)
+
+-- so does one of its kind, relation and limit of weight 1
+pub unweighted-limits : {k : Constraint} → ConstraintLimits k → ConstraintLimits (unweighted (k .kind) (k .relation) (k .limit))
+unweighted-limits l =
+    record { kind = l .kind; relation = l .relation; limit = l .limit; weight = record { low = omega arith; high = omega arith } }
+
+-- the ends of each edge of the flat list are regions
+pub edge-ends : {R : ℕ} (edges : List ℕ) → SmallEdges R (edgesOf edges) → (k : ℕ) → k < length edges / edgeLength → In R (edgeAt edges k .a) × In R (edgeAt edges k .b)
+unfolding edgesOf
+edge-ends {R} edges s = listOf-every (λ e. In R (e .a) × In R (e .b)) (length edges / edgeLength) (edgeAt edges) (s .ends)
+
+-- the area of the edges that pass a test is at most 2048 * 10 ^ 6
+pub area-bound : {R : ℕ} {edges : List Edge} → SmallEdges R edges → (p : Edge → Bool) → areaOf edges p ≤ mostEdges * mostArea
+area-bound {R} {edges} s p =
+    few-bound mostEdges mostArea edges _ (s .few) (every-turn (λ e h. cond-le (p e) {b = 0} h (omega arith)) edges (s .area))
+
+-- a constraint's violation is at most what its gauge may be
+pub violation-bound : (F : Figures) (gauge : ℕ) (k : Constraint) → SmallFigures F → gauge ≤ mostGauge → violationBy F gauge k ≤ mostGauge
+unfolding violationBy byKind
+violation-bound F gauge k f g =
+    cond-le (eqb (k .kind) 1) (omega (arith, f .excess, bit-le (not (stands (k .relation) (F .components) (k .limit)))))
+    (cond-le (eqb (k .kind) 2) (omega (arith, f .border))
+    (cond-le (eqb (k .kind) 3) (omega (arith, f .deviation))
+    (cond-le (eqb (k .kind) 4) g (omega arith))))
+
+module _ {F : Figures} {gauges constraints : List ℕ} (s : Small F gauges constraints) where
+  -- a weighted violation is at most 1000 times as much
+  pub weighted-bound : (i : ℕ) → i < constraintCount constraints → weightedAt F gauges constraints i ≤ mostWeight * mostGauge
+  weighted-bound i h =
+      mul-le-mul (constraint-limits constraints (s .constraint) i h .weight .high)
+      (violation-bound F (getD gauges i 0) (constraintAt constraints i) (s .figures) (few-at (s .gauge) i))
+
+  -- the total is at most 2 * 10 ^ 17
+  pub total-bound : totalBy F gauges constraints (constraintCount constraints) ≤ 200_000_000_000_000_000
+  unfolding totalBy
+  total-bound =
+      omega (
+        arith,
+        few-bound mostConstraints (mostWeight * mostGauge) (from 0 (constraintCount constraints)) (weightedAt F gauges constraints)
+            (rw (length-from 0 (constraintCount constraints), ← s .size) (s .gauge .few))
+            (every-from _ 0 (constraintCount constraints) (λ i lo hi. weighted-bound i (omega arith))),
+      )

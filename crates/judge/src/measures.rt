@@ -1,0 +1,120 @@
+// The figures of a colouring and the gauges of the constraints, by the tallies.
+ghost use mathlib.Core.Path.{_≡_};
+ghost use Prim.Native.Nat.{_-_, _*_, _≤_};
+ghost use lib.ListN.{length};
+ghost use Rattle.lists.specs.Sums.{In, sum, Every};
+ghost use Rattle.lists.specs.Few.{Few};
+ghost use Rattle.terms.specs.Distance.{gap, distance};
+ghost use Rattle.meaning.specs.Plan.{ConstraintLimits, mostSectors, mostRegions, mostLimit, constraintsOf};
+ghost use Rattle.judge.specs.Figures.{figuresBy, gaugeBy, gaugesBy, constraintCount, unweighted};
+ghost use Rattle.judge.specs.Small.{mostLoad, SmallTallies};
+use crate::Figures;
+use crate::tallies::sum_of;
+use terms::MadeRelation;
+use terms::Relation;
+use terms::excess;
+use terms::limits::BOUNDED;
+use terms::limits::CONSTRAINT_LENGTH;
+
+// The components of each sector above its first, summed.
+fn excess_of(counts: &[u64]) -> u64
+    requires { ⌜ Few mostSectors mostRegions (now counts) ⌝ }
+    ensures { λ r. ⌜ r ≡ sum (now (counts .entry)) (λ n. n - 1) ⌝ }
+{
+    let mut sum = 0;
+    let mut i = 0;
+    while i < counts.len() {
+        sum += excess(counts[i], 1);
+        i += 1;
+    }
+    sum
+}
+
+// How far the workloads of the sectors are from the average, in units of one over the number of sectors, summed.
+fn deviation_of(sectors: u64, whole: u64, loads: &[u64]) -> u64
+    requires { ⌜ sectors ≤ mostSectors ⌝ }
+    requires { ⌜ whole ≤ mostLoad ⌝ }
+    requires { ⌜ Few mostSectors mostLoad (now loads) ⌝ }
+    ensures { λ r. ⌜ r ≡ sum (now (loads .entry)) (λ x. gap (sectors * x) whole) ⌝ }
+{
+    let mut sum = 0;
+    let mut i = 0;
+    while i < loads.len() {
+        sum += terms::apart(sectors * loads[i], whole);
+        i += 1;
+    }
+    sum
+}
+
+// The figures by the tallies, the whole workload and the border.
+pub fn figures_of(sectors: u64, whole: u64, counts: &[u64], loads: &[u64], border: u64) -> Figures
+    requires { ⌜ SmallTallies sectors whole (now counts) (now loads) ⌝ }
+    ensures { λ r. ⌜ r ≡ figuresBy sectors whole (now (counts .entry)) (now (loads .entry)) border ⌝ }
+{
+    Figures {
+        components: sum_of(counts),
+        excess: excess_of(counts),
+        border,
+        deviation: deviation_of(sectors, whole, loads),
+    }
+}
+
+// The relation of a code that is one of 1 to 6.
+pub fn relation_of(code: u64) -> Relation
+    requires { ⌜ In 6 code ⌝ }
+    ensures { λ r. ⌜ r .code ≡ code ⌝ }
+{
+    match Relation::new(code) {
+        MadeRelation::Made(relation) => relation,
+        MadeRelation::Refused => Relation {
+            code: Relation::AT_MOST,
+        },
+    }
+}
+
+// How far the workloads of the sectors are from standing in the relation to the limit, summed.
+pub fn distances(loads: &[u64], relation: Relation, limit: u64) -> u64
+    requires { ⌜ Few mostSectors mostLoad (now loads) ⌝ }
+    requires { ⌜ limit ≤ mostLimit ⌝ }
+    ensures { λ r. ⌜ r ≡ sum (now (loads .entry)) (λ x. distance (relation .code) x limit) ⌝ }
+{
+    let mut sum = 0;
+    let mut i = 0;
+    while i < loads.len() {
+        sum += relation.distance(loads[i], limit);
+        i += 1;
+    }
+    sum
+}
+
+// What a constraint keeps of its own: the distances of a bounded one, and nothing of another.
+pub fn gauge_of(loads: &[u64], kind: u64, relation: u64, limit: u64) -> u64
+    requires { ⌜ Few mostSectors mostLoad (now loads) ⌝ }
+    requires { ⌜ ConstraintLimits (unweighted kind relation limit) ⌝ }
+    ensures { λ r. ⌜ r ≡ gaugeBy (now (loads .entry)) (unweighted kind relation limit) ⌝ }
+{
+    if kind == BOUNDED {
+        return distances(loads, relation_of(relation), limit);
+    }
+    0
+}
+
+// Puts down the gauge of each constraint.
+pub fn gauge_all(constraints: &[u64], loads: &[u64], gauges: &mut [u64])
+    requires { ⌜ Few mostSectors mostLoad (now loads) ⌝ }
+    requires { ⌜ Every ConstraintLimits (constraintsOf (now constraints)) ⌝ }
+    requires { ⌜ length (now gauges) ≡ constraintCount (now constraints) ⌝ }
+    ensures { λ _. ⌜ now (gauges .exit) ≡ gaugesBy (now (loads .entry)) (now (constraints .entry)) ⌝ }
+{
+    let mut k = 0;
+    while k < gauges.len() {
+        let at = CONSTRAINT_LENGTH * k;
+        gauges[k] = gauge_of(
+            loads,
+            constraints[at],
+            constraints[at + 1],
+            constraints[at + 2],
+        );
+        k += 1;
+    }
+}

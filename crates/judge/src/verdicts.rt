@@ -1,0 +1,105 @@
+// The violations, the total and the verdicts, by the figures and the gauges.
+ghost use mathlib.Core.Path.{_≡_};
+ghost use mathlib.Core.List.{_++_};
+ghost use mathlib.Core.Bool.{not};
+ghost use Prim.Native.Nat.{_*_, _<_, _≤_, _^_};
+ghost use lib.ListN.{length, drop};
+ghost use Rattle.lists.specs.Sums.{In, bit};
+ghost use Rattle.terms.specs.Distance.{stands};
+ghost use Rattle.meaning.specs.Plan.{ConstraintLimits};
+ghost use Rattle.meaning.specs.Moves.{verdictLength};
+ghost use Rattle.judge.specs.Figures.{constraintCount, unweighted, violationBy, violationAt, weightedAt, totalBy, verdictsBy};
+ghost use Rattle.judge.specs.Small.{SmallFigures, Small};
+use crate::Figures;
+use crate::bit_of;
+use crate::measures::relation_of;
+use terms::excess;
+use terms::limits::BALANCED;
+use terms::limits::BORDER;
+use terms::limits::CONNECTED;
+use terms::limits::CONSTRAINT_LENGTH;
+use terms::limits::VERDICT_LENGTH;
+
+// 1 where x does not stand in the relation to the limit, 0 where it does.
+fn missed(relation: u64, x: u64, limit: u64) -> u64
+    requires { ⌜ In 6 relation ⌝ }
+    requires { ⌜ (x < 2 ^ 63) × (limit < 2 ^ 63) ⌝ }
+    ensures { λ r. ⌜ r ≡ bit (not (stands relation x limit)) ⌝ }
+{
+    bit_of(relation_of(relation).distance(x, limit) != 0)
+}
+
+// The violation of a constraint, by the figures and its gauge.
+pub fn violation(figures: Figures, gauge: u64, kind: u64, relation: u64, limit: u64) -> u64
+    requires { ⌜ SmallFigures figures ⌝ }
+    requires { ⌜ ConstraintLimits (unweighted kind relation limit) ⌝ }
+    ensures { λ r. ⌜ r ≡ violationBy figures gauge (unweighted kind relation limit) ⌝ }
+{
+    if kind == CONNECTED {
+        return missed(relation, figures.components, limit) + figures.excess;
+    }
+    if kind == BORDER {
+        return excess(figures.border, limit);
+    }
+    if kind == BALANCED {
+        return excess(figures.deviation, limit);
+    }
+    gauge
+}
+
+// The violation of constraint k, from 0.
+pub fn violation_at(constraints: &[u64], figures: Figures, gauges: &[u64], k: usize) -> u64
+    requires { ⌜ Small figures (now gauges) (now constraints) ⌝ }
+    requires { ⌜ k < constraintCount (now constraints) ⌝ }
+    ensures { λ r. ⌜ r ≡ violationAt figures (now (gauges .entry)) (now (constraints .entry)) k ⌝ }
+{
+    let at = CONSTRAINT_LENGTH * k;
+    violation(
+        figures,
+        gauges[k],
+        constraints[at],
+        constraints[at + 1],
+        constraints[at + 2],
+    )
+}
+
+// The weight times the violation of constraint k, from 0.
+pub fn weighted_at(constraints: &[u64], figures: Figures, gauges: &[u64], k: usize) -> u64
+    requires { ⌜ Small figures (now gauges) (now constraints) ⌝ }
+    requires { ⌜ k < constraintCount (now constraints) ⌝ }
+    ensures { λ r. ⌜ r ≡ weightedAt figures (now (gauges .entry)) (now (constraints .entry)) k ⌝ }
+{
+    constraints[CONSTRAINT_LENGTH * k + 3] * violation_at(constraints, figures, gauges, k)
+}
+
+// The total: weight times violation, summed over the constraints.
+pub fn total(constraints: &[u64], figures: Figures, gauges: &[u64]) -> u64
+    requires { ⌜ Small figures (now gauges) (now constraints) ⌝ }
+    ensures { λ r. ⌜ r ≡ totalBy figures (now (gauges .entry)) (now (constraints .entry)) (constraintCount (now (constraints .entry))) ⌝ }
+{
+    let n = constraints.len() / CONSTRAINT_LENGTH;
+    let mut total = 0;
+    let mut k = 0;
+    while k < n {
+        total += weighted_at(constraints, figures, gauges, k);
+        k += 1;
+    }
+    total
+}
+
+// Puts down the verdict on each constraint; what lies beyond stays.
+pub fn put_verdicts(constraints: &[u64], figures: Figures, gauges: &[u64], verdicts: &mut [u64])
+    requires { ⌜ Small figures (now gauges) (now constraints) ⌝ }
+    requires { ⌜ verdictLength * constraintCount (now constraints) ≤ length (now verdicts) ⌝ }
+    ensures { λ _. ⌜ now (verdicts .exit) ≡ verdictsBy figures (now (gauges .entry)) (now (constraints .entry)) (constraintCount (now (constraints .entry))) ++ drop (verdictLength * constraintCount (now (constraints .entry))) (now (verdicts .entry)) ⌝ }
+{
+    let n = constraints.len() / CONSTRAINT_LENGTH;
+    let mut k = 0;
+    while k < n {
+        let at = VERDICT_LENGTH * k;
+        let v = violation_at(constraints, figures, gauges, k);
+        verdicts[at] = bit_of(v == 0);
+        verdicts[at + 1] = v;
+        k += 1;
+    }
+}
