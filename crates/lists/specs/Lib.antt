@@ -1,7 +1,9 @@
 pub mod Sums
 pub mod Tests
 pub mod SumLaws
+pub mod Counts
 pub mod ListLaws
 pub mod Places
+pub mod Parts
 pub mod Few
 pub mod Loops

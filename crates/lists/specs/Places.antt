@@ -63,6 +63,14 @@ table-is n f xs l e = ext-at xs (map f (upTo n)) l (length-table n f) (λ c i. e
 pub sum-at : (n : ℕ) (xs : List ℕ) (f : ℕ → ℕ) → length xs ≡ n → sum xs f ≡ sum (upTo n) (λ u. f (at xs u))
 sum-at n xs f l = ap (λ ys. sum ys f) (table-is n (at xs) xs l (λ c i. refl)) ∙ sum-map (at xs) (upTo n) f
 
+-- what the stored number has, and the number before, a cell has after a store
+pub by-set : (P : ℕ → Type 0) (xs : List ℕ) (i j x : ℕ) → P x → P (getD xs j 0) → P (getD (set xs i x) j 0)
+by-set P [] i j x p q = q
+by-set P (y ∷ ys) zero zero x p q = p
+by-set P (y ∷ ys) zero (suc j) x p q = q
+by-set P (y ∷ ys) (suc i) zero x p q = q
+by-set P (y ∷ ys) (suc i) (suc j) x p q = by-set P ys i j x p q
+
 -- ---- sums over a list of which a number is set anew
 
 -- the new sum and the old term make the old sum and the new term

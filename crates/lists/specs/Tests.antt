@@ -58,3 +58,16 @@ eqb-sym a b = test-same _ _ (λ h. eq-eqb b a (sym (eqb-true a b h))) (λ h. eq-
 pub cond-parts : (t : Bool) (n : ℕ) → cond (not t) n 0 + cond t n 0 ≡ n
 cond-parts true n = omega arith
 cond-parts false n = omega arith
+
+-- a test does not matter where it picks one of two that are the same
+pub cond-same : (t : Bool) (n : ℕ) → cond t n n ≡ n
+cond-same true n = refl
+cond-same false n = refl
+
+-- two pairs of tests whose first do not both pass: what is picked by either pair is what each picks
+pub cond-either : (s p t q : Bool) (n : ℕ) → (s ≡ true → t ≡ true → ⊥) → cond ((s && p) || (t && q)) n 0 ≡ cond s (cond p n 0) 0 + cond t (cond q n 0) 0
+cond-either true p true q n h = absurd (h refl refl)
+cond-either true true false q n h = omega arith
+cond-either true false false q n h = omega arith
+cond-either false p true q n h = omega arith
+cond-either false p false q n h = omega arith

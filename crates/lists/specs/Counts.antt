@@ -1,0 +1,62 @@
+-- Laws of how many of 1..n pass a test.
+-- Assumes nothing.
+use Prim.Native.Nat.{ℕ, _+_, _≤_, _<_}
+use native.Mathlib.Nat.{le-of-eq}
+use native.Mathlib.Omega.{arith}
+use mathlib.Core.Path.{_≡_, refl, ap}
+use mathlib.Core.Logic.{_≢_, _⊎_, inl, inr}
+use mathlib.Core.Bool.{Bool, true, false, _||_}
+use mathlib.Mathlib.Data.Bool.Basic.{or-inl, or-inr}
+use borrow.Author.Tests.{eqb-true, eq-eqb, ne-eqb}
+use lib.Dec.{eqb}
+use Rattle.lists.specs.Sums.{In, bit, upTo, count}
+use Rattle.lists.specs.SumLaws.{length-from, few-bound, every-all, every-upTo, sum-same, sum-zero, sum-change}
+use Rattle.lists.specs.Tests.{bit-le}
+
+-- tests that agree on 1..n count the same
+pub count-same : (n : ℕ) (p q : ℕ → Bool) → ((u : ℕ) → In n u → p u ≡ q u) → count (upTo n) p ≡ count (upTo n) q
+count-same n p q h = sum-same n (λ u. bit (p u)) (λ u. bit (q u)) (λ u i. ap bit (h u i))
+
+-- a test that none of 1..n passes counts 0
+pub count-none : (n : ℕ) (p : ℕ → Bool) → ((u : ℕ) → In n u → p u ≡ false) → count (upTo n) p ≡ 0
+count-none n p h = sum-zero (upTo n) (λ u. bit (p u)) (every-upTo (λ u. bit (p u) ≡ 0) n (λ u i. ap bit (h u i)))
+
+-- a test that one number passes more counts one more
+pub count-more : (n m : ℕ) (p q : ℕ → Bool) → In n m → p m ≡ true → q m ≡ false → ((u : ℕ) → In n u → u ≢ m → p u ≡ q u)
+    → count (upTo n) p ≡ count (upTo n) q + 1
+count-more n m p q i t f h =
+    omega (arith, sum-change n m (λ u. bit (p u)) (λ u. bit (q u)) i (λ u j ne. ap bit (h u j ne)), ap bit t, ap bit f)
+
+-- the test p, which m passes too
+abbrev pub also : ℕ → (ℕ → Bool) → ℕ → Bool
+also m p u = eqb u m || p u
+
+-- what passes it is m, or passes p
+pub also-cases : (m : ℕ) (p : ℕ → Bool) (u : ℕ) → also m p u ≡ true → (u ≡ m) ⊎ (p u ≡ true)
+also-cases m p u = go (eqb u m) refl
+  where
+    go : (t : Bool) → eqb u m ≡ t → t || p u ≡ true → (u ≡ m) ⊎ (p u ≡ true)
+    go true e h = inl (eqb-true u m e)
+    go false e h = inr h
+
+-- m passes it
+pub also-own : (m : ℕ) (p : ℕ → Bool) (u : ℕ) → u ≡ m → also m p u ≡ true
+also-own m p u e = or-inl (eqb u m) (p u) (eq-eqb u m e)
+
+-- and so does what passes p
+pub also-old : (m : ℕ) (p : ℕ → Bool) (u : ℕ) → p u ≡ true → also m p u ≡ true
+also-old m p u h = or-inr (eqb u m) (p u) h
+
+-- it counts one more where m did not pass
+pub count-also : (n m : ℕ) (p : ℕ → Bool) → In n m → p m ≡ false → count (upTo n) (also m p) ≡ count (upTo n) p + 1
+count-also n m p i f =
+    count-more n m (also m p) p i (also-own m p m refl) f (λ u j ne. ap (λ (t : Bool). t || p u) (ne-eqb u m ne))
+
+-- at most n of 1..n pass a test
+pub count-le : (n : ℕ) (p : ℕ → Bool) → count (upTo n) p ≤ n
+count-le n p =
+    omega (arith, few-bound n 1 (upTo n) (λ u. bit (p u)) (le-of-eq (length-from 1 n)) (every-all (λ u. bit (p u) ≤ 1) (λ u. bit-le (p u)) (upTo n)))
+
+-- fewer than n, where one of them fails it
+pub count-less : (n m : ℕ) (p : ℕ → Bool) → In n m → p m ≡ false → count (upTo n) p < n
+count-less n m p i f = omega (arith, count-also n m p i f, count-le n (also m p))

@@ -1,0 +1,110 @@
+-- The loop goes through the row up to place j, and its two sums with what comes after make the whole areas.
+use Prim.Native.Nat.{_-_}
+use native.Mathlib.Omega.{arith}
+use borrow.Author.Needs.{needs}
+use lib.ListN.{length, getD}
+use Rattle.meaning.specs.Plan.{edgesOf}
+use Rattle.search.specs.Weighing.{Weighing, weighable-row, weighed-fits, weighing-start, weighing-in, weighing-turn, weighing-end}
+use Rattle.search.proofs.areas_of.Statement.{statement}
+use Rattle.search.proofs.areas_of.Tie as tie
+
+abbrev Inv-loop : tie.InvT-loop
+Inv-loop edges start near areas colouring region own sector last j₀ here₀ there₀ j here there = Weighing (length start - 1) (edgesOf edges) start near areas colouring region own sector here there j
+
+abbrev μ-loop : tie.MeasureT-loop
+μ-loop edges start near areas colouring region own sector last j₀ here₀ there₀ j here there = getD start region 0 - j
+
+mul-last : tie.Need-mul-last Inv-loop μ-loop
+mul-last c = omega (arith, weighable-row (c .before .before .before .before .before .pre))
+
+shared-slice-read-last : tie.Need-shared-slice-read-last Inv-loop μ-loop
+shared-slice-read-last c = omega (arith, weighable-row (c .before .before .before .before .before .before .pre))
+
+sub-j : tie.Need-sub-j Inv-loop μ-loop
+sub-j c = omega (arith, weighable-row (c .before .before .before .before .before .before .pre))
+
+mul-j : tie.Need-mul-j Inv-loop μ-loop
+mul-j c = omega (arith, weighable-row (c .before .before .before .before .before .before .pre))
+
+shared-slice-read-j : tie.Need-shared-slice-read-j Inv-loop μ-loop
+shared-slice-read-j c = omega (arith, weighable-row (c .before .before .before .before .before .before .before .pre))
+
+loop-holds : tie.Need-loop-holds Inv-loop μ-loop
+loop-holds c = weighing-start (c .before .before .before .before .before .before .before .pre)
+
+mul-z : tie.Need-mul-z Inv-loop μ-loop
+mul-z c = omega (arith, weighable-row (c .before .loop .inv .given))
+
+shared-slice-read-z : tie.Need-shared-slice-read-z Inv-loop μ-loop
+shared-slice-read-z c = omega (arith, weighable-row (c .before .before .loop .inv .given))
+
+sub-z : tie.Need-sub-z Inv-loop μ-loop
+sub-z c = omega (arith, weighing-in (c .before .before .loop .inv) (c .before .loop-test .taken))
+
+mul-area : tie.Need-mul-area Inv-loop μ-loop
+mul-area c = let g = c .before .before .loop .inv .given in omega (arith, weighable-row g, g .table .same)
+
+shared-slice-read-area : tie.Need-shared-slice-read-area Inv-loop μ-loop
+shared-slice-read-area c = let g = c .before .before .before .loop .inv .given in omega (arith, weighable-row g, g .table .same)
+
+mul-shown : tie.Need-mul-shown Inv-loop μ-loop
+mul-shown c = omega (arith, weighing-in (c .before .before .before .loop .inv) (c .before .before .loop-test .taken), c .before .before .before .loop .inv .given .size)
+
+shared-slice-read-shown : tie.Need-shared-slice-read-shown Inv-loop μ-loop
+shared-slice-read-shown c = omega (arith, weighing-in (c .before .before .before .before .loop .inv) (c .before .before .before .loop-test .taken), c .before .before .before .before .loop .inv .given .size)
+
+part-requires : tie.Need-part-requires Inv-loop μ-loop
+part-requires c κs = search needs
+
+add-here : tie.Need-add-here Inv-loop μ-loop
+add-here c =
+    let w = c .before .before .before .before .before .loop .inv in
+    omega (arith, weighed-fits (w .given) (w .here) (w .low) (c .before .before .before .before .loop-test .taken) (c .part .ensures))
+
+part-requires-2 : tie.Need-part-requires-2 Inv-loop μ-loop
+part-requires-2 c κs = search needs
+
+add-there : tie.Need-add-there Inv-loop μ-loop
+add-there c =
+    let w = c .before .before .before .before .before .before .loop .inv in
+    omega (arith, weighed-fits (w .given) (w .there) (w .low) (c .before .before .before .before .before .loop-test .taken) (c .part2 .ensures))
+
+add-j : tie.Need-add-j Inv-loop μ-loop
+add-j c = omega (arith, weighable-row (c .before .before .before .before .before .before .loop .inv .given), c .before .before .before .before .before .loop-test .taken)
+
+loop-less : tie.Need-loop-less Inv-loop μ-loop
+loop-less c = omega (arith, c .before .before .before .before .before .loop-test .taken)
+
+loop-again : tie.Need-loop-again Inv-loop μ-loop
+loop-again c = weighing-turn (c .before .before .before .before .before .before .loop .inv) (c .before .before .before .before .before .loop-test .taken) (c .before .part .ensures) (c .part2 .ensures)
+
+returns : tie.Need-returns Inv-loop μ-loop
+returns c = weighing-end (c .before .loop .inv) (c .loop-test .left)
+
+pub areas-of-spec : {M : Type 1} → statement M
+areas-of-spec =
+    tie.close
+    (tie.spec
+    Inv-loop
+    μ-loop
+    mul-last
+    shared-slice-read-last
+    sub-j
+    mul-j
+    shared-slice-read-j
+    loop-holds
+    mul-z
+    shared-slice-read-z
+    sub-z
+    mul-area
+    shared-slice-read-area
+    mul-shown
+    shared-slice-read-shown
+    part-requires
+    add-here
+    part-requires-2
+    add-there
+    add-j
+    loop-less
+    loop-again
+    returns)

@@ -1,0 +1,62 @@
+-- The area of a region's edges to a sector is a sum along its row.
+-- Assumes nothing.
+use Prim.Native.Nat.{ℕ, _+_, _≤_, _<_}
+use native.Mathlib.Numerals.{add-one}
+use native.Mathlib.Omega.{arith}
+use mathlib.Core.Path.{_≡_, refl}
+use mathlib.Core.List.{List, [], _∷_}
+use mathlib.Core.Bool.{Bool, true, false, cond}
+use borrow.Author.Tests.{eqb-true}
+use lib.Dec.{eqb}
+use lib.ListN.{length, getD, drop, drop-of-length-le}
+use lib.Seq.{drop-cons}
+use Rattle.lists.specs.Sums.{at, Every}
+use Rattle.lists.specs.SumLaws.{few-bound, every-turn}
+use Rattle.lists.specs.Tests.{cond-le, cond-either}
+use Rattle.meaning.specs.Plan.{Edge, EdgeLimits, mostEdges, mostArea}
+use Rattle.meaning.specs.Kinds.{leadsTo}
+use Rattle.meaning.specs.Faces.{areaTo}
+use Rattle.neighbours.specs.Table.{when, sides, near, areas}
+
+-- of neighbours and areas, cell by cell, the areas of those of sector c are added up
+unfoldable pub weigh : List ℕ → ℕ → List ℕ → List ℕ → ℕ
+weigh col c [] ss = 0
+weigh col c (w ∷ ws) [] = 0
+weigh col c (w ∷ ws) (s ∷ ss) = cond (eqb (at col w) c) s 0 + weigh col c ws ss
+
+module _ (col : List ℕ) (c : ℕ) where
+  -- a neighbour and an area in front, where the test passes
+  weigh-when : (t : Bool) (w s : ℕ) (ws ss : List ℕ) → weigh col c (when t w ws) (when t s ss) ≡ cond t (cond (eqb (at col w) c) s 0) 0 + weigh col c ws ss
+  unfolding weigh
+  weigh-when true w s ws ss = refl
+  weigh-when false w s ws ss = omega arith
+
+  -- from cell k on: that cell, and those after it
+  pub weigh-drop : (k : ℕ) (ws ss : List ℕ) → k < length ws → k < length ss
+      → weigh col c (drop k ws) (drop k ss) ≡ cond (eqb (at col (getD ws k 0)) c) (getD ss k 0) 0 + weigh col c (drop (k + 1) ws) (drop (k + 1) ss)
+  unfolding weigh
+  weigh-drop k ws ss h i = rw (add-one, drop-cons ws k 0 h, drop-cons ss k 0 i)
+
+  -- past the last cell there is nothing
+  pub weigh-end : (k : ℕ) (ws ss : List ℕ) → length ws ≤ k → weigh col c (drop k ws) (drop k ss) ≡ 0
+  unfolding weigh
+  weigh-end k ws ss h = rw (drop-of-length-le ws h)
+
+  -- along the row of v it is the area of v's edges to sector c
+  pub area-weigh : (R : ℕ) (edges : List Edge) (v : ℕ) → Every (EdgeLimits R) edges → weigh col c (near edges v) (areas edges v) ≡ areaTo edges col v c
+  unfolding weigh areaTo leadsTo sides
+  area-weigh R [] v l = refl
+  area-weigh R (e ∷ es) v l =
+      omega (
+        arith,
+        weigh-when (eqb (e .a) v) (e .b) (e .area) (when (eqb (e .b) v) (e .a) (near es v)) (when (eqb (e .b) v) (e .area) (areas es v)),
+        weigh-when (eqb (e .b) v) (e .a) (e .area) (near es v) (areas es v),
+        cond-either (eqb (e .a) v) (eqb (at col (e .b)) c) (eqb (e .b) v) (eqb (at col (e .a)) c) (e .area) (λ s t. omega (arith, eqb-true (e .a) v s, eqb-true (e .b) v t, l .0 .rise)),
+        area-weigh R es v (l .1),
+      )
+
+  -- which is at most 2,048 * 10 ^ 6
+  pub area-bound : (R : ℕ) (edges : List Edge) (v : ℕ) → length edges ≤ mostEdges → Every (EdgeLimits R) edges → areaTo edges col v c ≤ 2_048_000_000
+  unfolding areaTo
+  area-bound R edges v few l =
+      few-bound mostEdges mostArea edges _ few (every-turn (λ e h. cond-le (leadsTo (λ w. eqb (at col w) c) v e) (h .area .high) (omega arith)) edges l)

@@ -1,0 +1,13 @@
+pub mod Marks
+pub mod Flood
+pub mod Grown
+pub mod Scan
+pub mod Expanding
+pub mod Closed
+pub mod Restoring
+pub mod Counting
+pub mod Searching
+pub mod Touches
+pub mod FaceAreas
+pub mod Weighing
+pub mod Looking

@@ -1,0 +1,247 @@
+// What a recolouring touches: the pieces its region leaves, the components it joins, the areas of its faces; by a search that stops early.
+ghost use mathlib.Core.Path.{_≡_};
+ghost use Prim.Native.Nat.{_-_, _≤_};
+ghost use lib.ListN.{length};
+ghost use lib.Dec.{eqb};
+ghost use mathlib.Core.Bool.{cond};
+ghost use Rattle.lists.specs.Sums.{bit};
+ghost use Rattle.meaning.specs.Plan.{edgesOf};
+ghost use Rattle.meaning.specs.Joined.{instead, labels as labelsOf};
+ghost use Rattle.meaning.specs.Faces.{beside, areaTo};
+ghost use Rattle.search.specs.Marks.{mark, unmask};
+ghost use Rattle.search.specs.Flood.{Flood};
+ghost use Rattle.search.specs.Scan.{Span, Scan};
+ghost use Rattle.search.specs.Expanding.{Expandable, Expanded};
+ghost use Rattle.search.specs.Counting.{Counting};
+ghost use Rattle.search.specs.Weighing.{Weighable};
+ghost use Rattle.search.specs.Looking.{Looking, Looked};
+
+// What stands in the place of the sector of a region that a search has reached: larger than every sector.
+const MARK: u64 = 255;
+
+// The mark where a region shows the sector, and otherwise what it shows.
+fn masked(shown: u64, sector: u64) -> u64
+    ensures { λ r. ⌜ r ≡ instead sector mark shown ⌝ }
+{
+    if shown == sector { MARK } else { shown }
+}
+
+// 1 where a region shows the sector, and otherwise 0.
+fn hit(shown: u64, sector: u64) -> usize
+    ensures { λ r. ⌜ r ≡ bit (eqb shown sector) ⌝ }
+    ensures { λ r. ⌜ r ≤ 1 ⌝ }
+{
+    if shown == sector { 1 } else { 0 }
+}
+
+// Marks the neighbours of a region that show the sector and adds them to the queue, whose new end it returns.
+pub fn expand(
+    edges: &[u64],
+    start: &[u64],
+    near: &[u64],
+    colouring: &mut [u64],
+    queue: &mut [u64],
+    sector: u64,
+    region: usize,
+    end: usize,
+) -> usize
+    requires { ⌜ Expandable (length (now start) - 1) (edgesOf (now edges)) (now start) (now near) sector (now colouring) (now queue) end region ⌝ }
+    ensures { λ r. ⌜ Expanded (length (now (start .entry)) - 1) (edgesOf (now (edges .entry))) sector (now (colouring .entry)) (now (queue .entry)) end region (now (colouring .exit)) (now (queue .exit)) r ⌝ }
+{
+    let last = start[region] as usize;
+    let mut j = start[region - 1] as usize;
+    let mut e = end;
+    while j < last {
+        let neighbour = near[j];
+        let z = neighbour as usize - 1;
+        let shown = colouring[z];
+        queue[e] = neighbour;
+        colouring[z] = masked(shown, sector);
+        e += hit(shown, sector);
+        j += 1;
+    }
+    e
+}
+
+// Gives the marked regions, which are those of the queue, their sector back.
+pub fn restore(colouring: &mut [u64], queue: &[u64], sector: u64, end: usize)
+    requires { ⌜ Flood (length (now colouring)) sector (now colouring) (now queue) end ⌝ }
+    ensures { λ _. ⌜ now (colouring .exit) ≡ unmask sector (now (colouring .entry)) ⌝ }
+{
+    let mut k = 0;
+    while k < end {
+        let z = queue[k] as usize - 1;
+        colouring[z] = sector;
+        k += 1;
+    }
+}
+
+// The first place of a part of a row whose neighbour shows the sector, or the part's end.
+fn skip(near: &[u64], colouring: &[u64], sector: u64, first: usize, end: usize) -> usize
+    requires { ⌜ Span (length (now colouring)) (now near) first end ⌝ }
+    ensures { λ r. ⌜ Scan (now (near .entry)) (now (colouring .entry)) sector first end r ⌝ }
+{
+    let mut i = first;
+    while i < end {
+        let z = near[i] as usize - 1;
+        if colouring[z] == sector {
+            return i;
+        }
+        i += 1;
+    }
+    i
+}
+
+// How many components of a sector share a face with a region: from each neighbour that shows the sector its component is searched, until none shows it.
+fn count_beside(
+    edges: &[u64],
+    start: &[u64],
+    near: &[u64],
+    colouring: &mut [u64],
+    queue: &mut [u64],
+    region: usize,
+    sector: u64,
+) -> u64
+    requires { ⌜ Counting (length (now start) - 1) (edgesOf (now edges)) (now start) (now near) (now colouring) (now queue) region sector ⌝ }
+    ensures { λ r. ⌜ r ≡ beside (edgesOf (now (edges .entry))) (now (colouring .entry)) region sector ⌝ }
+    ensures { λ r. ⌜ now (colouring .exit) ≡ now (colouring .entry) ⌝ }
+{
+    let last = start[region] as usize;
+    let first = start[region - 1] as usize;
+    let mut n = 0;
+    let mut h = 0;
+    let mut e = 0;
+    let mut i = skip(near, colouring, sector, first, last);
+    while i < last {
+        if h < e {
+            let reached = queue[h] as usize;
+            h += 1;
+            e = expand(edges, start, near, colouring, queue, sector, reached, e);
+            i = skip(near, colouring, sector, i, last);
+        } else {
+            let found = near[i];
+            let z = found as usize - 1;
+            colouring[z] = MARK;
+            queue[e] = found;
+            e += 1;
+            n += 1;
+            i = skip(near, colouring, sector, i + 1, last);
+        }
+    }
+    restore(colouring, queue, sector, e);
+    n
+}
+
+// How many components of a sector share a face with a region, by the labels.
+fn touching(
+    edges: &[u64],
+    start: &[u64],
+    near: &[u64],
+    labels: &[u64],
+    colouring: &mut [u64],
+    queue: &mut [u64],
+    region: usize,
+    sector: u64,
+) -> usize
+    requires { ⌜ Counting (length (now start) - 1) (edgesOf (now edges)) (now start) (now near) (now colouring) (now queue) region sector ⌝ }
+    requires { ⌜ now labels ≡ labelsOf (edgesOf (now edges)) (now colouring) ⌝ }
+    ensures { λ r. ⌜ r ≡ beside (edgesOf (now (edges .entry))) (now (colouring .entry)) region sector ⌝ }
+    ensures { λ r. ⌜ now (colouring .exit) ≡ now (colouring .entry) ⌝ }
+{
+    let last = start[region] as usize;
+    let mut j = start[region - 1] as usize;
+    let mut e = 0;
+    while j < last {
+        let w = near[j] as usize - 1;
+        let label = labels[w];
+        let z = label as usize - 1;
+        let shown = colouring[z];
+        queue[e] = label;
+        colouring[z] = masked(shown, sector);
+        e += hit(shown, sector);
+        j += 1;
+    }
+    restore(colouring, queue, sector, e);
+    e
+}
+
+// The area where a region shows the sector, and otherwise 0.
+fn part(shown: u64, sector: u64, area: u64) -> u64
+    ensures { λ r. ⌜ r ≡ cond (eqb shown sector) area 0 ⌝ }
+{
+    if shown == sector { area } else { 0 }
+}
+
+// The areas of a region's edges to its own sector and to another.
+struct Areas {
+    here: u64,
+    there: u64,
+}
+
+// Adds up the areas of a region's edges to two sectors.
+fn areas_of(
+    edges: &[u64],
+    start: &[u64],
+    near: &[u64],
+    areas: &[u64],
+    colouring: &[u64],
+    region: usize,
+    own: u64,
+    sector: u64,
+) -> Areas
+    requires { ⌜ Weighable (length (now start) - 1) (edgesOf (now edges)) (now start) (now near) (now areas) (now colouring) region ⌝ }
+    ensures { λ r. ⌜ r .here ≡ areaTo (edgesOf (now (edges .entry))) (now (colouring .entry)) region own ⌝ }
+    ensures { λ r. ⌜ r .there ≡ areaTo (edgesOf (now (edges .entry))) (now (colouring .entry)) region sector ⌝ }
+{
+    let last = start[region] as usize;
+    let mut j = start[region - 1] as usize;
+    let mut here = 0;
+    let mut there = 0;
+    while j < last {
+        let z = near[j] as usize - 1;
+        let area = areas[j];
+        let shown = colouring[z];
+        here += part(shown, own, area);
+        there += part(shown, sector, area);
+        j += 1;
+    }
+    Areas { here, there }
+}
+
+// What giving a region to a sector touches: the pieces that its component leaves, the components of the sector that share a face with it, and the areas of its faces to its own sector and to the other.
+pub struct Look {
+    pub pieces: u64,
+    pub touching: u64,
+    pub here: u64,
+    pub there: u64,
+}
+
+// Looks at giving a region to a sector.
+pub fn look_at(
+    edges: &[u64],
+    start: &[u64],
+    near: &[u64],
+    areas: &[u64],
+    labels: &[u64],
+    colouring: &mut [u64],
+    queue: &mut [u64],
+    region: usize,
+    sector: u64,
+) -> Look
+    requires { ⌜ Looking (length (now start) - 1) (edgesOf (now edges)) (now start) (now near) (now areas) (now labels) (now colouring) (now queue) region sector ⌝ }
+    ensures { λ r. ⌜ Looked (edgesOf (now (edges .entry))) (now (colouring .entry)) region sector r ⌝ }
+    ensures { λ r. ⌜ now (colouring .exit) ≡ now (colouring .entry) ⌝ }
+{
+    let own = colouring[region - 1];
+    let joined = touching(edges, start, near, labels, colouring, queue, region, sector);
+    colouring[region - 1] = 0;
+    let left = count_beside(edges, start, near, colouring, queue, region, own);
+    let faces = areas_of(edges, start, near, areas, colouring, region, own, sector);
+    colouring[region - 1] = own;
+    Look {
+        pieces: left,
+        touching: joined as u64,
+        here: faces.here,
+        there: faces.there,
+    }
+}
