@@ -1,4 +1,4 @@
--- The area of a region's edges to a sector is a sum along its row.
+-- The area of a region's edges to the regions that pass a test is a sum along its row.
 -- Assumes nothing.
 use Prim.Native.Nat.{ℕ, _+_, _≤_, _<_}
 use native.Mathlib.Numerals.{add-one}
@@ -10,53 +10,51 @@ use borrow.Author.Tests.{eqb-true}
 use lib.Dec.{eqb}
 use lib.ListN.{length, getD, drop, drop-of-length-le}
 use lib.Seq.{drop-cons}
-use Rattle.lists.specs.Sums.{at, Every}
+use Rattle.lists.specs.Sums.{Every}
 use Rattle.lists.specs.SumLaws.{few-bound, every-turn}
 use Rattle.lists.specs.Tests.{cond-le, cond-either}
 use Rattle.meaning.specs.Plan.{Edge, EdgeLimits, mostEdges, mostArea}
-use Rattle.meaning.specs.Kinds.{leadsTo}
-use Rattle.meaning.specs.Faces.{areaTo}
+use Rattle.meaning.specs.Kinds.{areaOf, leadsTo}
 use Rattle.neighbours.specs.Table.{when, sides, near, areas}
 
--- of neighbours and areas, cell by cell, the areas of those of sector c are added up
-unfoldable pub weigh : List ℕ → ℕ → List ℕ → List ℕ → ℕ
-weigh col c [] ss = 0
-weigh col c (w ∷ ws) [] = 0
-weigh col c (w ∷ ws) (s ∷ ss) = cond (eqb (at col w) c) s 0 + weigh col c ws ss
+-- of neighbours and areas, cell by cell, the areas of those that pass the test are added up
+unfoldable pub weigh : (ℕ → Bool) → List ℕ → List ℕ → ℕ
+weigh test [] ss = 0
+weigh test (w ∷ ws) [] = 0
+weigh test (w ∷ ws) (s ∷ ss) = cond (test w) s 0 + weigh test ws ss
 
-module _ (col : List ℕ) (c : ℕ) where
-  -- a neighbour and an area in front, where the test passes
-  weigh-when : (t : Bool) (w s : ℕ) (ws ss : List ℕ) → weigh col c (when t w ws) (when t s ss) ≡ cond t (cond (eqb (at col w) c) s 0) 0 + weigh col c ws ss
+module _ (test : ℕ → Bool) where
+  -- a neighbour and an area in front, where t passes
+  weigh-when : (t : Bool) (w s : ℕ) (ws ss : List ℕ) → weigh test (when t w ws) (when t s ss) ≡ cond t (cond (test w) s 0) 0 + weigh test ws ss
   unfolding weigh
   weigh-when true w s ws ss = refl
   weigh-when false w s ws ss = omega arith
 
   -- from cell k on: that cell, and those after it
   pub weigh-drop : (k : ℕ) (ws ss : List ℕ) → k < length ws → k < length ss
-      → weigh col c (drop k ws) (drop k ss) ≡ cond (eqb (at col (getD ws k 0)) c) (getD ss k 0) 0 + weigh col c (drop (k + 1) ws) (drop (k + 1) ss)
+      → weigh test (drop k ws) (drop k ss) ≡ cond (test (getD ws k 0)) (getD ss k 0) 0 + weigh test (drop (k + 1) ws) (drop (k + 1) ss)
   unfolding weigh
   weigh-drop k ws ss h i = rw (add-one, drop-cons ws k 0 h, drop-cons ss k 0 i)
 
   -- past the last cell there is nothing
-  pub weigh-end : (k : ℕ) (ws ss : List ℕ) → length ws ≤ k → weigh col c (drop k ws) (drop k ss) ≡ 0
+  pub weigh-end : (k : ℕ) (ws ss : List ℕ) → length ws ≤ k → weigh test (drop k ws) (drop k ss) ≡ 0
   unfolding weigh
   weigh-end k ws ss h = rw (drop-of-length-le ws h)
 
-  -- along the row of v it is the area of v's edges to sector c
-  pub area-weigh : (R : ℕ) (edges : List Edge) (v : ℕ) → Every (EdgeLimits R) edges → weigh col c (near edges v) (areas edges v) ≡ areaTo edges col v c
-  unfolding weigh areaTo leadsTo sides
+  -- along the row of v it is the area of v's edges to regions that pass
+  pub area-weigh : (R : ℕ) (edges : List Edge) (v : ℕ) → Every (EdgeLimits R) edges → weigh test (near edges v) (areas edges v) ≡ areaOf edges (leadsTo test v)
+  unfolding weigh leadsTo sides
   area-weigh R [] v l = refl
   area-weigh R (e ∷ es) v l =
       omega (
         arith,
         weigh-when (eqb (e .a) v) (e .b) (e .area) (when (eqb (e .b) v) (e .a) (near es v)) (when (eqb (e .b) v) (e .area) (areas es v)),
         weigh-when (eqb (e .b) v) (e .a) (e .area) (near es v) (areas es v),
-        cond-either (eqb (e .a) v) (eqb (at col (e .b)) c) (eqb (e .b) v) (eqb (at col (e .a)) c) (e .area) (λ s t. omega (arith, eqb-true (e .a) v s, eqb-true (e .b) v t, l .0 .rise)),
+        cond-either (eqb (e .a) v) (test (e .b)) (eqb (e .b) v) (test (e .a)) (e .area) (λ s t. omega (arith, eqb-true (e .a) v s, eqb-true (e .b) v t, l .0 .rise)),
         area-weigh R es v (l .1),
       )
 
   -- which is at most 2,048 * 10 ^ 6
-  pub area-bound : (R : ℕ) (edges : List Edge) (v : ℕ) → length edges ≤ mostEdges → Every (EdgeLimits R) edges → areaTo edges col v c ≤ 2_048_000_000
-  unfolding areaTo
+  pub area-bound : (R : ℕ) (edges : List Edge) (v : ℕ) → length edges ≤ mostEdges → Every (EdgeLimits R) edges → areaOf edges (leadsTo test v) ≤ 2_048_000_000
   area-bound R edges v few l =
-      few-bound mostEdges mostArea edges _ few (every-turn (λ e h. cond-le (leadsTo (λ w. eqb (at col w) c) v e) (h .area .high) (omega arith)) edges l)
+      few-bound mostEdges mostArea edges _ few (every-turn (λ e h. cond-le (leadsTo test v e) (h .area .high) (omega arith)) edges l)

@@ -3,10 +3,11 @@ ghost use mathlib.Core.Path.{_≡_};
 ghost use Prim.Native.Nat.{_-_, _≤_};
 ghost use lib.ListN.{length};
 ghost use lib.Dec.{eqb};
-ghost use mathlib.Core.Bool.{cond};
-ghost use Rattle.lists.specs.Sums.{bit};
+ghost use mathlib.Core.Bool.{cond, not};
+ghost use Rattle.lists.specs.Sums.{at, bit};
 ghost use Rattle.meaning.specs.Plan.{edgesOf};
 ghost use Rattle.meaning.specs.Joined.{instead, labels as labelsOf};
+ghost use Rattle.meaning.specs.Kinds.{areaOf, leadsTo};
 ghost use Rattle.meaning.specs.Faces.{beside, areaTo};
 ghost use Rattle.search.specs.Marks.{mark, unmask};
 ghost use Rattle.search.specs.Flood.{Flood};
@@ -206,6 +207,39 @@ fn areas_of(
         j += 1;
     }
     Areas { here, there }
+}
+
+// The area where a region shows another sector, and otherwise 0.
+fn part_elsewhere(shown: u64, sector: u64, area: u64) -> u64
+    ensures { λ r. ⌜ r ≡ cond (not (eqb shown sector)) area 0 ⌝ }
+{
+    if shown == sector { 0 } else { area }
+}
+
+// Adds up the areas of a region's edges that lead to another sector than its own.
+pub fn border_at(
+    edges: &[u64],
+    start: &[u64],
+    near: &[u64],
+    areas: &[u64],
+    colouring: &[u64],
+    region: usize,
+    own: u64,
+) -> u64
+    requires { ⌜ Weighable (length (now start) - 1) (edgesOf (now edges)) (now start) (now near) (now areas) (now colouring) region ⌝ }
+    ensures { λ r. ⌜ r ≡ areaOf (edgesOf (now (edges .entry))) (leadsTo (λ w. not (eqb (at (now (colouring .entry)) w) own)) region) ⌝ }
+{
+    let last = start[region] as usize;
+    let mut j = start[region - 1] as usize;
+    let mut sum = 0;
+    while j < last {
+        let z = near[j] as usize - 1;
+        let area = areas[j];
+        let shown = colouring[z];
+        sum += part_elsewhere(shown, own, area);
+        j += 1;
+    }
+    sum
 }
 
 // What giving a region to a sector touches: the pieces that its component leaves, the components of the sector that share a face with it, and the areas of its faces to its own sector and to the other.
