@@ -1,0 +1,67 @@
+-- Each figure is shifted by what its callees answer for the two sectors, and the border by the two areas.
+use borrow.Author.Needs.{needs}
+use Rattle.change.specs.Shift.{figuresAfter}
+use Rattle.change.proofs.figures_after.Statement.{statement}
+use Rattle.change.proofs.figures_after.Tie as tie
+
+add-border : tie.Need-add-border
+add-border c = search needs
+
+sub-border : tie.Need-sub-border
+sub-border c = search needs
+
+shifted-requires : tie.Need-shifted-requires
+shifted-requires c κs = search needs
+
+less-one-requires : tie.Need-less-one-requires
+less-one-requires c κs = search needs
+
+less-one-requires-2 : tie.Need-less-one-requires-2
+less-one-requires-2 c κs = search needs
+
+shifted-requires-2 : tie.Need-shifted-requires-2
+shifted-requires-2 c κs =
+    let pre = c .before .before .before .before .before .before .before .before .before .before .pre in
+    rw (c .before .less-one .ensures, c .less-one2 .ensures) (pre .excess)
+
+off-balance-requires : tie.Need-off-balance-requires
+off-balance-requires c κs = search needs
+
+off-balance-requires-2 : tie.Need-off-balance-requires-2
+off-balance-requires-2 c κs =
+    let pre = c .before .before .before .before .before .before .before .before .before .before .before .before .pre in
+    (pre .sectors, pre .after)
+
+shifted-requires-3 : tie.Need-shifted-requires-3
+shifted-requires-3 c κs =
+    let pre = c .before .before .before .before .before .before .before .before .before .before .before .before .before .pre in
+    rw (c .before .off-balance .ensures, c .off-balance2 .ensures) (pre .deviation)
+
+returns : tie.Need-returns
+unfolding figuresAfter
+returns c =
+    let excess = c .before .before .before in
+    rw (
+      excess .before .before .before .shifted .ensures,
+      excess .shifted2 .ensures,
+      excess .before .before .less-one .ensures,
+      excess .before .less-one2 .ensures,
+      c .shifted3 .ensures,
+      c .before .before .off-balance .ensures,
+      c .before .off-balance2 .ensures,
+    )
+
+pub figures-after-spec : {M : Type 1} → statement M
+figures-after-spec =
+    tie.close
+    (tie.spec
+    add-border
+    sub-border
+    shifted-requires
+    less-one-requires
+    less-one-requires-2
+    shifted-requires-2
+    off-balance-requires
+    off-balance-requires-2
+    shifted-requires-3
+    returns)

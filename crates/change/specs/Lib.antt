@@ -1,0 +1,6 @@
+pub mod Shift
+pub mod ShiftLaws
+pub mod Renewed
+pub mod Small
+pub mod TwoTerms
+pub mod Changed

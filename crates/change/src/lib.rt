@@ -1,0 +1,172 @@
+// What a recolouring changes: the two sectors that it concerns, and by them the figures, the gauges and the total after it.
+ghost use mathlib.Core.Path.{_≡_};
+ghost use Prim.Native.Nat.{_≤_, _<_};
+ghost use Rattle.meaning.specs.Plan.{mostSectors, mostLimit};
+ghost use Rattle.judge.specs.Figures.{constraintCount, unweighted};
+ghost use Rattle.judge.specs.Small.{mostLoad};
+ghost use Rattle.change.specs.Shift.{lessOne, offBalance, offLimit, shift, figuresAfter, gaugeAfter, gaugesAfter, weightedAfter, totalAfter};
+ghost use Rattle.change.specs.Small.{AtMost, Fits, Shifting, GaugeShifting, GaugesShifting, Totalling};
+use judge::Figures;
+use judge::measures::relation_of;
+use judge::verdicts::violation;
+use terms::Relation;
+use terms::limits;
+
+// Of the two sectors that a recolouring concerns, the one that the region leaves and the one that it comes to, a number each.
+pub struct Pair {
+    pub old: u64,
+    pub new: u64,
+}
+
+// The two sectors' components and workloads.
+pub struct Sides {
+    pub components: Pair,
+    pub workloads: Pair,
+}
+
+// What a recolouring changes: the two sectors before and after it, and the areas that the border gains and loses.
+pub struct Change {
+    pub before: Sides,
+    pub after: Sides,
+    pub gained: u64,
+    pub lost: u64,
+}
+
+// A sum of which two terms change.
+fn shifted(sum: u64, before: Pair, after: Pair) -> u64
+    requires { ⌜ Fits sum before after ⌝ }
+    ensures { λ r. ⌜ r ≡ shift sum before after ⌝ }
+{
+    sum + (after.old + after.new) - (before.old + before.new)
+}
+
+// The components of each sector above its first.
+fn less_one(components: Pair) -> Pair
+    ensures { λ r. ⌜ r ≡ lessOne components ⌝ }
+{
+    Pair {
+        old: terms::excess(components.old, 1),
+        new: terms::excess(components.new, 1),
+    }
+}
+
+// How far each workload is from the average, times the number of sectors.
+fn off_balance(sectors: u64, whole: u64, workloads: Pair) -> Pair
+    requires { ⌜ sectors ≤ mostSectors ⌝ }
+    requires { ⌜ AtMost mostLoad workloads ⌝ }
+    ensures { λ r. ⌜ r ≡ offBalance sectors whole workloads ⌝ }
+{
+    Pair {
+        old: terms::apart(sectors * workloads.old, whole),
+        new: terms::apart(sectors * workloads.new, whole),
+    }
+}
+
+// How far each workload is from standing in the relation to the limit.
+fn off_limit(relation: Relation, limit: u64, workloads: Pair) -> Pair
+    requires { ⌜ limit ≤ mostLimit ⌝ }
+    requires { ⌜ AtMost mostLoad workloads ⌝ }
+    ensures { λ r. ⌜ r ≡ offLimit (relation .code) limit workloads ⌝ }
+{
+    Pair {
+        old: relation.distance(workloads.old, limit),
+        new: relation.distance(workloads.new, limit),
+    }
+}
+
+// The figures after the change.
+pub fn figures_after(sectors: u64, whole: u64, figures: Figures, change: Change) -> Figures
+    requires { ⌜ Shifting sectors whole figures change ⌝ }
+    ensures { λ r. ⌜ r ≡ figuresAfter sectors whole figures change ⌝ }
+{
+    let components = change.before.components;
+    let components_after = change.after.components;
+    let workloads = change.before.workloads;
+    let workloads_after = change.after.workloads;
+    let border = figures.border + change.gained - change.lost;
+    Figures {
+        components: shifted(figures.components, components, components_after),
+        excess: shifted(
+            figures.excess,
+            less_one(components),
+            less_one(components_after),
+        ),
+        border,
+        deviation: shifted(
+            figures.deviation,
+            off_balance(sectors, whole, workloads),
+            off_balance(sectors, whole, workloads_after),
+        ),
+    }
+}
+
+// A constraint's gauge after the change.
+fn gauge_after(gauge: u64, kind: u64, relation: u64, limit: u64, change: Change) -> u64
+    requires { ⌜ GaugeShifting gauge (unweighted kind relation limit) change ⌝ }
+    ensures { λ r. ⌜ r ≡ gaugeAfter gauge (unweighted kind relation limit) change ⌝ }
+{
+    if kind == limits::BOUNDED {
+        let relation = relation_of(relation);
+        let workloads = change.before.workloads;
+        let workloads_after = change.after.workloads;
+        return shifted(
+            gauge,
+            off_limit(relation, limit, workloads),
+            off_limit(relation, limit, workloads_after),
+        );
+    }
+    0
+}
+
+// Puts down each constraint's gauge after the change in place of that before it.
+pub fn shift_gauges(constraints: &[u64], gauges: &mut [u64], change: Change)
+    requires { ⌜ GaugesShifting (now gauges) (now constraints) change ⌝ }
+    ensures { λ _. ⌜ now (gauges .exit) ≡ gaugesAfter (now (gauges .entry)) (now (constraints .entry)) (constraintCount (now (constraints .entry))) change ⌝ }
+{
+    let mut k = 0;
+    while k < gauges.len() {
+        let at = limits::CONSTRAINT_LENGTH * k;
+        gauges[k] = gauge_after(
+            gauges[k],
+            constraints[at],
+            constraints[at + 1],
+            constraints[at + 2],
+            change,
+        );
+        k += 1;
+    }
+}
+
+// The weight times the violation of constraint k, from 0, after the change.
+fn weighted_after(
+    constraints: &[u64],
+    figures: Figures,
+    gauges: &[u64],
+    change: Change,
+    k: usize,
+) -> u64
+    requires { ⌜ Totalling figures (now gauges) (now constraints) change ⌝ }
+    requires { ⌜ k < constraintCount (now constraints) ⌝ }
+    ensures { λ r. ⌜ r ≡ weightedAfter figures (now (gauges .entry)) (now (constraints .entry)) change k ⌝ }
+{
+    let at = limits::CONSTRAINT_LENGTH * k;
+    let kind = constraints[at];
+    let relation = constraints[at + 1];
+    let limit = constraints[at + 2];
+    let gauge = gauge_after(gauges[k], kind, relation, limit, change);
+    constraints[at + 3] * violation(figures, gauge, kind, relation, limit)
+}
+
+// The total after the change, by the figures after it and the gauges before it.
+pub fn total_after(constraints: &[u64], figures: Figures, gauges: &[u64], change: Change) -> u64
+    requires { ⌜ Totalling figures (now gauges) (now constraints) change ⌝ }
+    ensures { λ r. ⌜ r ≡ totalAfter figures (now (gauges .entry)) (now (constraints .entry)) (constraintCount (now (constraints .entry))) change ⌝ }
+{
+    let mut total = 0;
+    let mut k = 0;
+    while k < gauges.len() {
+        total += weighted_after(constraints, figures, gauges, change, k);
+        k += 1;
+    }
+    total
+}
