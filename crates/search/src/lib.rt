@@ -18,7 +18,7 @@ ghost use Rattle.search.specs.Weighing.{Weighable};
 ghost use Rattle.search.specs.Looking.{Looking, Looked};
 
 // What stands in the place of the sector of a region that a search has reached: larger than every sector.
-const MARK: u64 = 255;
+pub const MARK: u64 = 255;
 
 // The mark where a region shows the sector, and otherwise what it shows.
 fn masked(shown: u64, sector: u64) -> u64

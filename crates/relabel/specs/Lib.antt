@@ -1,0 +1,10 @@
+pub mod ListSums
+pub mod Growing
+pub mod Minimum
+pub mod Differing
+pub mod Writing
+pub mod Seeding
+pub mod Sowing
+pub mod Repairing
+pub mod Recolouring
+pub mod Labelling
