@@ -1,0 +1,95 @@
+-- After each turn the moves that are left lead where all moves lead, and their rows complete the rows.
+use Prim.Native.Nat.{_-_}
+use native.Mathlib.Omega.{arith}
+use mathlib.Core.Path.{_≡_, refl}
+use borrow.Author.Needs.{needs}
+use lib.ListN.{length}
+use Rattle.meaning.specs.Plan.{planOf}
+use Rattle.call.specs.StateLaws.{setting-queue}
+use Rattle.call.specs.Taken.{Taken, taken-start, taken-turn, taken-end}
+use Rattle.call.proofs.turns.all_moves.Statement.{statement}
+use Rattle.call.proofs.turns.all_moves.Tie as tie
+
+abbrev Inv-loop : tie.InvT-loop
+Inv-loop sectors whole workloads edges constraints start near areas moves colouring₀ work₀ gauges₀ queue₀ rows₀ n standing₀ k₀ colouring work gauges queue rows standing k =
+    Taken (planOf (length workloads) sectors workloads edges constraints) moves colouring₀ work₀ rows₀ k colouring work gauges standing rows
+    × (length colouring ≡ length colouring₀)
+    × (length work ≡ length work₀)
+    × (length gauges ≡ length gauges₀)
+    × (length queue ≡ length queue₀)
+    × (length rows ≡ length rows₀)
+
+abbrev μ-loop : tie.MeasureT-loop
+μ-loop sectors whole workloads edges constraints start near areas moves colouring₀ work₀ gauges₀ queue₀ rows₀ n standing₀ k₀ colouring work gauges queue rows standing k = n - k
+
+-- from inside the loop to where all began
+abbrev began : tie.In-loop Inv-loop μ-loop → tie.Start Inv-loop μ-loop
+began c = c .before .before .before .before .before .before .before .before .before .before .before .before .before
+
+loop-holds : tie.Need-loop-holds Inv-loop μ-loop
+loop-holds c =
+    let s = c .before .before .before .before .before .before .before .before .before .before .before in
+    (taken-start (s .pre .1 .0) (s .pre .1 .1), refl, refl, refl, refl, refl)
+
+turn-requires : tie.Need-turn-requires Inv-loop μ-loop
+turn-requires c κs =
+    let l = c .before .before .before .before .before in
+    let i = l .before .loop .inv in
+    let s = began l in
+    (setting-queue (s .pre .0) (i .4), (i .0 .ready, (omega (arith, l .loop-test .taken), omega (arith, l .loop-test .taken, s .pre .1 .1, i .5))))
+
+add-k : tie.Need-add-k Inv-loop μ-loop
+add-k c =
+    let l = c .before .before .before .before .before .before .before .before .before .before .before .before .before .before .before in
+    omega (arith, l .loop-test .taken, began l .good .1 .1 .1 .1 .1 .1 .1 .1 .0)
+
+loop-less : tie.Need-loop-less Inv-loop μ-loop
+loop-less c = search needs
+
+loop-again : tie.Need-loop-again Inv-loop μ-loop
+loop-again c =
+    let t = c .before .before .before .before .before .before .before .before .before .turn in
+    let l = c .before .before .before .before .before .before .before .before .before .before .before .before .before .before .before in (
+      taken-turn (l .before .loop .inv .0) (began l .pre .0 .limits) (l .loop-test .taken) (t .ensures .0) (t .ensures .1),
+      search needs,
+      search needs,
+      search needs,
+      search needs,
+      search needs,
+    )
+
+same-length : tie.Need-same-length Inv-loop μ-loop
+same-length c = search needs
+
+same-length-2 : tie.Need-same-length-2 Inv-loop μ-loop
+same-length-2 c = search needs
+
+same-length-3 : tie.Need-same-length-3 Inv-loop μ-loop
+same-length-3 c = search needs
+
+same-length-4 : tie.Need-same-length-4 Inv-loop μ-loop
+same-length-4 c = search needs
+
+same-length-5 : tie.Need-same-length-5 Inv-loop μ-loop
+same-length-5 c = search needs
+
+returns : tie.Need-returns Inv-loop μ-loop
+returns c = taken-end (c .before .loop .inv .0) (c .loop-test .left)
+
+pub all-moves-spec : {M : Type 1} → statement M
+all-moves-spec =
+    tie.close
+    (tie.spec
+    Inv-loop
+    μ-loop
+    loop-holds
+    turn-requires
+    add-k
+    loop-less
+    loop-again
+    same-length
+    same-length-2
+    same-length-3
+    same-length-4
+    same-length-5
+    returns)

@@ -1,0 +1,111 @@
+-- The move is one of the plan, so that the step answers it, and what it answers is its row.
+use borrow.Author.Needs.{needs}
+use Rattle.call.specs.Decoded.{move-within}
+use Rattle.call.specs.StateLaws.{answered-opened}
+use Rattle.call.specs.RowLaws.{said-fits, said-put}
+use Rattle.call.proofs.turns.turn.Statement.{statement}
+use Rattle.call.proofs.turns.turn.Tie as tie
+
+-- from where the status is known to where the step was taken, the move was made, and all began
+abbrev stepped : tie.After-status-of → tie.After-step
+stepped c = c .before .before .before .before .before .before .before .before .before .before .before
+
+abbrev made : tie.After-step → tie.After-new
+made c = c .before .before .before .before .before
+
+abbrev began : tie.After-new → tie.Start
+began c = c .before .before .before .before .before .before .before .before .before .before .before .before .before .before .before
+
+mul-at : tie.Need-mul-at
+mul-at c = search needs
+
+mul-new : tie.Need-mul-new
+mul-new c = search needs
+
+shared-slice-read-new : tie.Need-shared-slice-read-new
+shared-slice-read-new c = search needs
+
+add-new : tie.Need-add-new
+add-new c = search needs
+
+mul-new-2 : tie.Need-mul-new-2
+mul-new-2 c = search needs
+
+shared-slice-read-new-2 : tie.Need-shared-slice-read-new-2
+shared-slice-read-new-2 c = search needs
+
+add-new-2 : tie.Need-add-new-2
+add-new-2 c = search needs
+
+mul-new-3 : tie.Need-mul-new-3
+mul-new-3 c = search needs
+
+shared-slice-read-new-3 : tie.Need-shared-slice-read-new-3
+shared-slice-read-new-3 c = search needs
+
+new-requires : tie.Need-new-requires
+new-requires c κs = search needs
+
+step-requires : tie.Need-step-requires
+step-requires c κs =
+    let m = c .before .before .before .before in
+    let s = began m in
+    (s .pre .0, (s .pre .1 .0, rw (m .new .ensures) (move-within _ _ _ _)))
+
+status-of-requires : tie.Need-status-of-requires
+status-of-requires c κs = search needs
+
+put-row-requires : tie.Need-put-row-requires
+put-row-requires c κs =
+    let a = stepped (c .before) in
+    let m = made a in
+    let s = began m in
+    (s .pre .1 .1 .1, said-fits (s .pre .0 .limits) (a .step .ensures) (m .new .ensures) (c .before .status-of .ensures) (move-within _ _ _ _))
+
+same-length : tie.Need-same-length
+same-length c = search needs
+
+same-length-2 : tie.Need-same-length-2
+same-length-2 c = search needs
+
+same-length-3 : tie.Need-same-length-3
+same-length-3 c = search needs
+
+same-length-4 : tie.Need-same-length-4
+same-length-4 c = search needs
+
+same-length-5 : tie.Need-same-length-5
+same-length-5 c = search needs
+
+returns : tie.Need-returns
+returns c =
+    let s = c .before .before .before in
+    let a = stepped s in
+    let m = made a in (
+      answered-opened (a .step .ensures) (m .new .ensures),
+      said-put (began m .pre .0 .limits) (a .step .ensures) (m .new .ensures) (s .status-of .ensures) _ _ (c .before .put-row .ensures),
+    )
+
+pub turn-spec : {M : Type 1} → statement M
+turn-spec =
+    tie.close
+    (tie.spec
+    mul-at
+    mul-new
+    shared-slice-read-new
+    add-new
+    mul-new-2
+    shared-slice-read-new-2
+    add-new-2
+    mul-new-3
+    shared-slice-read-new-3
+    new-requires
+    step-requires
+    status-of-requires
+    put-row-requires
+    same-length
+    same-length-2
+    same-length-3
+    same-length-4
+    same-length-5
+    returns)

@@ -1,0 +1,85 @@
+-- The promise, from the two ways through the call.
+-- Assumes nothing.
+use Prim.Native.Nat.{ℕ, suc, _+_, _*_, _≤_}
+use native.Mathlib.Numerals.{add-one}
+use native.Mathlib.Omega.{arith}
+use mathlib.Core.Path.{_≡_, refl, sym, ap, _∙_}
+use mathlib.Core.List.{List, _++_}
+use borrow.Author.Tests.{eq-eqb, ne-eqb}
+use lib.IntN.{ℤ}
+use lib.ListN.{length, drop, set}
+use lib.Seq.{drop-cons, set-at, append-snoc}
+use Rattle.meaning.specs.Plan.{Plan, Limits, constraintsOf}
+use Rattle.meaning.specs.Kinds.{border}
+use Rattle.meaning.specs.Moves.{rowLength, verdictLength, rows, last, work}
+use Rattle.refusals.specs.declared.Refusal.{Refusal}
+use Rattle.refusals.specs.Table.{Given, callRefusal}
+use Rattle.refusals.specs.Valid.{Valid, valid}
+use Rattle.judge.specs.Figures.{figuresOf, constraintCount, verdictsBy}
+use Rattle.judge.specs.FigureLaws.{verdicts-by}
+use Rattle.judge.specs.Small.{Small, plan-small}
+use Rattle.call.specs.Promise.{Input, Outcome, given, planIn, movesIn, lastIn, refusedBy, ran, outcome, Promise, left}
+use Rattle.engine.specs.State.{memory, memoryLength, Opened}
+use Rattle.call.specs.StateLaws.{memory-length, opened-beyond}
+use Rattle.call.specs.Taken.{moveCount, coloured-last}
+use Rattle.engine.specs.declared.Standing.{Standing}
+
+-- T, put down after the front of the work memory, makes the work memory of the colouring
+work-put : (P : Plan) (col w : List ℕ) → length (memory P col) ≡ memoryLength P → memoryLength P + 1 ≤ length w
+    → set (memory P col ++ drop (memoryLength P) w) (memoryLength P) (border P col) ≡ work P col ++ drop (memoryLength P + 1) w
+unfolding memory work
+work-put P col w size room =
+    rw (drop-cons w (memoryLength P) 0 (omega arith), set-at (memory P col) _ (drop (suc (memoryLength P)) w) (border P col) (memoryLength P) size, add-one (memoryLength P), append-snoc)
+
+-- the figures and the gauges that a judgement leaves are small
+pub opened-small : {P : Plan} {col w col′ w′ gs′ : List ℕ} {s : Standing} (constraints : List ℕ) → Limits P → P .constraints ≡ constraintsOf constraints
+    → Opened P col w col′ w′ gs′ s → Small (s .figures) gs′ constraints
+opened-small {P} {col} constraints l e o = rw (o .standing, o .gauges) (plan-small P l col constraints e)
+
+-- where the colouring is judged, all moves are taken, and the rows, the verdicts and T are put down, all is done that is asked of a call
+pub ran-by : (i : Input) → Valid (given i)
+    → {c1 w1 gs1 : List ℕ} {s1 : Standing} → Opened (planIn i) (i .colouring) (i .work) c1 w1 gs1 s1
+    → {c2 w2 gs2 : List ℕ} {s2 : Standing} → Opened (planIn i) (last c1 (movesIn i)) w1 c2 w2 gs2 s2
+    → {rs : List ℤ} → rs ≡ rows (planIn i) c1 (movesIn i) ++ drop (rowLength * moveCount (i .moves)) (i .rows)
+    → {vs : List ℕ} → vs ≡ verdictsBy (s2 .figures) gs2 (i .constraints) (constraintCount (i .constraints)) ++ drop (verdictLength * constraintCount (i .constraints)) (i .verdicts)
+    → left (record { code = 0; place = 0; first = s1 .total; last = s2 .total }) c2 rs vs (set w2 (memoryLength (planIn i)) (s2 .figures .border)) ≡ ran i
+unfolding ran figuresOf
+ran-by i v o q p d =
+    let l = v .plan .limits in
+    let k = v .plan .coloured in
+    let z : Opened (planIn i) (lastIn i) _ _ _ _ _ = rw (o .colouring) at q in
+    rw (
+      p,
+      d,
+      z .standing,
+      z .gauges,
+      z .colouring,
+      z .work,
+      opened-beyond l k o,
+      o .standing,
+      o .colouring,
+      verdicts-by (planIn i) (lastIn i) (i .constraints) refl,
+      work-put (planIn i) (lastIn i) (i .work) (memory-length l (coloured-last (i .moves) k)) (v .work-room),
+    )
+
+-- ---- the two ways
+
+-- the one outcome keeps the promise
+kept-promise : {i : Input} {o : Outcome} → o ≡ outcome i → Promise i o
+kept-promise h = rw h (record { answer = refl; colouring = refl; rows = refl; verdicts = refl; work = refl })
+
+module _ {g : Given} {f : Refusal} (e : f ≡ callRefusal g) where
+  -- where nothing is refused, the call is valid
+  pub valid-here : f .code ≡ 0 → Valid g
+  valid-here z = valid g (ap (λ r. r .code) (sym e) ∙ z)
+
+module _ {i : Input} {f : Refusal} (e : f ≡ callRefusal (given i)) where
+  -- where all is done that is asked of the call, the promise is kept
+  pub promise-ran : f .code ≡ 0 → {o : Outcome} → o ≡ ran i → Promise i o
+  unfolding outcome
+  promise-ran z h = kept-promise (h ∙ rw (← e, eq-eqb (f .code) 0 z))
+
+  -- where a refusal is answered, and nothing is touched, the promise is kept
+  pub promise-refused : (f .code ≡ 0 → ⊥) → Promise i (left (record { code = f .code; place = f .place; first = 0; last = 0 }) (i .colouring) (i .rows) (i .verdicts) (i .work))
+  unfolding outcome refusedBy
+  promise-refused n = kept-promise (rw (← e, ne-eqb (f .code) 0 n))

@@ -1,0 +1,189 @@
+// The call: refusal, first judgement, the moves in turn, the verdicts.
+ghost use mathlib.Core.Path.{_≡_};
+ghost use lib.ListN.{length};
+ghost use Rattle.refusals.specs.Valid.{Valid};
+ghost use Rattle.call.specs.Promise.{Input, Promise, input, given, planIn, left, ran};
+ghost use Rattle.engine.specs.State.{Setting, Opening};
+
+mod rows; // rows.rt: a row, and where it is put down
+mod turns; // turns.rt: the moves in turn
+
+use judge::tallies::sum_of;
+use judge::verdicts::put_verdicts;
+use neighbours::gather;
+use refusals::call_refusal;
+use terms::limits::CONSTRAINT_LENGTH;
+use terms::limits::MOST_CONSTRAINTS;
+use terms::limits::MOST_EDGES;
+use terms::limits::MOST_REGIONS;
+
+// What a call answers: a refusal's code and place, or code 0 with the total before the moves and after them.
+pub struct Answer {
+    pub code: u64,
+    pub place: u64,
+    pub first: u64,
+    pub last: u64,
+}
+
+// Judges the colouring, takes all moves, and puts down the verdicts and T.
+fn judge_all(
+    sectors: u64,
+    whole: u64,
+    workloads: &[u64],
+    edges: &[u64],
+    constraints: &[u64],
+    start: &[u64],
+    near: &[u64],
+    areas: &[u64],
+    moves: &[u64],
+    colouring: &mut [u64],
+    rows: &mut [i64],
+    verdicts: &mut [u64],
+    work: &mut [u64],
+    gauges: &mut [u64],
+    queue: &mut [u64],
+) -> Answer
+    ghost { Input }
+    requires { λ i. ⌜ input (length (now workloads)) sectors (now workloads) (now edges) (now constraints) (now colouring) (now moves) (now rows) (now verdicts) (now work) ≡ i ⌝ }
+    requires { λ i. ⌜ Valid (given i) ⌝ }
+    requires { λ i. ⌜ Setting (planIn i) whole (now start) (now near) (now areas) (now queue) ⌝ }
+    requires { λ i. ⌜ Opening (planIn i) (now colouring) (now work) (now gauges) ⌝ }
+    ensures { λ i r. ⌜ left r (now (colouring .exit)) (now (rows .exit)) (now (verdicts .exit)) (now (work .exit)) ≡ ran i ⌝ }
+{
+    let first = engine::begin(
+        sectors,
+        whole,
+        workloads,
+        edges,
+        constraints,
+        start,
+        near,
+        areas,
+        colouring,
+        work,
+        gauges,
+        queue,
+    );
+    let last = turns::all_moves(
+        sectors,
+        whole,
+        workloads,
+        edges,
+        constraints,
+        start,
+        near,
+        areas,
+        moves,
+        colouring,
+        work,
+        gauges,
+        queue,
+        rows,
+        first,
+    );
+    let figures = last.figures;
+    put_verdicts(constraints, figures, gauges, verdicts);
+    let at = workloads.len() + 2 * sectors as usize;
+    work[at] = figures.border;
+    Answer {
+        code: 0,
+        place: 0,
+        first: first.total,
+        last: last.total,
+    }
+}
+
+// Does what is asked of a call that is not refused.
+fn run(
+    regions: u64,
+    sectors: u64,
+    workloads: &[u64],
+    edges: &[u64],
+    constraints: &[u64],
+    moves: &[u64],
+    colouring: &mut [u64],
+    rows: &mut [i64],
+    verdicts: &mut [u64],
+    work: &mut [u64],
+) -> Answer
+    ghost { Input }
+    requires { λ i. ⌜ input regions sectors (now workloads) (now edges) (now constraints) (now colouring) (now moves) (now rows) (now verdicts) (now work) ≡ i ⌝ }
+    requires { λ i. ⌜ Valid (given i) ⌝ }
+    ensures { λ i r. ⌜ left r (now (colouring .exit)) (now (rows .exit)) (now (verdicts .exit)) (now (work .exit)) ≡ ran i ⌝ }
+{
+    let mut start = [0u64; MOST_REGIONS as usize + 1];
+    let mut near = [0u64; 2 * MOST_EDGES as usize];
+    let mut areas = [0u64; 2 * MOST_EDGES as usize];
+    let mut gauges = [0u64; MOST_CONSTRAINTS as usize];
+    let mut queue = [0u64; MOST_REGIONS as usize + 1];
+    let starts = regions as usize + 1;
+    let count = constraints.len() / CONSTRAINT_LENGTH;
+    gather(edges, &mut start[..starts], &mut near, &mut areas);
+    let whole = sum_of(workloads);
+    judge_all(
+        sectors,
+        whole,
+        workloads,
+        edges,
+        constraints,
+        &start[..starts],
+        &near,
+        &areas,
+        moves,
+        colouring,
+        rows,
+        verdicts,
+        work,
+        &mut gauges[..count],
+        &mut queue,
+    )
+}
+
+// Judges a colouring of a plan, takes the moves in turn, and judges the last colouring; a call that is refused answers why and changes nothing.
+pub fn judge(
+    regions: u64,
+    sectors: u64,
+    workloads: &[u64],
+    edges: &[u64],
+    constraints: &[u64],
+    colouring: &mut [u64],
+    moves: &[u64],
+    rows: &mut [i64],
+    verdicts: &mut [u64],
+    work: &mut [u64],
+) -> Answer
+    ensures { λ r. ⌜ Promise (input regions sectors (now (workloads .entry)) (now (edges .entry)) (now (constraints .entry)) (now (colouring .entry)) (now (moves .entry)) (now (rows .entry)) (now (verdicts .entry)) (now (work .entry))) (left r (now (colouring .exit)) (now (rows .exit)) (now (verdicts .exit)) (now (work .exit))) ⌝ }
+{
+    let refusal = call_refusal(
+        regions,
+        sectors,
+        workloads,
+        edges,
+        constraints,
+        colouring,
+        moves,
+        rows.len(),
+        verdicts.len(),
+        work.len(),
+    );
+    if refusal.code != 0 {
+        return Answer {
+            code: refusal.code,
+            place: refusal.place,
+            first: 0,
+            last: 0,
+        };
+    }
+    run(
+        regions,
+        sectors,
+        workloads,
+        edges,
+        constraints,
+        moves,
+        colouring,
+        rows,
+        verdicts,
+        work,
+    )
+}

@@ -1,0 +1,76 @@
+-- What is read at the region's sector and found at its edges is what the region has, and that is weighed.
+use native.Mathlib.Omega.{arith}
+use mathlib.Core.Path.{refl}
+use borrow.Author.Needs.{needs}
+use Rattle.engine.specs.Asking.{asking-sector, asking-weighable, asking-fits, asking-weighing, asking-violation}
+use Rattle.engine.proofs.ask.region_violation.Statement.{statement}
+use Rattle.engine.proofs.ask.region_violation.Tie as tie
+
+sub-own : tie.Need-sub-own
+sub-own c = search needs
+
+mul-own : tie.Need-mul-own
+mul-own c = search needs
+
+shared-slice-read-own : tie.Need-shared-slice-read-own
+shared-slice-read-own c = search needs
+
+add-at : tie.Need-add-at
+add-at c = omega (arith, asking-sector (c .before .before .before .before .before .before .before .before .before .pre))
+
+sub-at : tie.Need-sub-at
+sub-at c = search needs
+
+add-workload : tie.Need-add-workload
+add-workload c = omega (arith, asking-sector (c .before .before .before .before .before .before .before .before .before .pre))
+
+mul-workload : tie.Need-mul-workload
+mul-workload c = omega (arith, asking-sector (c .before .before .before .before .before .before .before .before .before .pre))
+
+shared-slice-read-workload : tie.Need-shared-slice-read-workload
+shared-slice-read-workload c = omega (arith, asking-sector (c .before .before .before .before .before .before .before .before .before .before .pre))
+
+mul-excess : tie.Need-mul-excess
+mul-excess c = omega (arith, asking-sector (c .before .before .before .before .before .before .before .before .before .before .pre))
+
+shared-slice-read-excess : tie.Need-shared-slice-read-excess
+shared-slice-read-excess c = omega (arith, asking-sector (c .before .before .before .before .before .before .before .before .before .before .before .pre))
+
+excess-requires : tie.Need-excess-requires
+excess-requires c κs = search needs
+
+border-at-requires : tie.Need-border-at-requires
+border-at-requires c κs = asking-weighable (c .before .before .before .before .before .before .before .before .before .before .before .before .pre)
+
+mul-apart : tie.Need-mul-apart
+mul-apart c = record { fits = asking-fits (c .before .before .before .before .before .before .before .before .before .before .before .before .before .pre) }
+
+apart-requires : tie.Need-apart-requires
+apart-requires c κs = search needs
+
+weigh-requires : tie.Need-weigh-requires
+weigh-requires c κs = asking-weighing (c .before .before .before .before .before .before .before .before .before .before .before .before .before .before .pre) (c .before .before .excess .ensures) (c .before .border-at .ensures) (c .apart .ensures) _ refl
+
+returns : tie.Need-returns
+returns c = asking-violation (c .before .before .before .before .before .before .before .before .before .before .before .before .before .before .before .pre) (c .before .before .before .excess .ensures) (c .before .before .border-at .ensures) (c .before .apart .ensures) _ refl (c .weigh .ensures)
+
+pub region-violation-spec : {M : Type 1} → statement M
+region-violation-spec =
+    tie.close
+    (tie.spec
+    sub-own
+    mul-own
+    shared-slice-read-own
+    add-at
+    sub-at
+    add-workload
+    mul-workload
+    shared-slice-read-workload
+    mul-excess
+    shared-slice-read-excess
+    excess-requires
+    border-at-requires
+    mul-apart
+    apart-requires
+    weigh-requires
+    returns)

@@ -1,0 +1,11 @@
+pub mod State
+pub mod Memory
+pub mod Turning
+pub mod Remade
+pub mod Recolouring
+pub mod Exchanging
+pub mod Copied
+pub mod Asking
+pub mod Opening
+pub mod Differences
+pub mod Stepping

@@ -1,0 +1,212 @@
+-- How the front of the work memory is laid out part by part, and how a colouring is judged by it.
+-- Assumes nothing.
+use Prim.Native.Nat.{ℕ, _+_, _-_, _*_, _≤_, _<_}
+use native.Mathlib.Omega.{arith}
+use mathlib.Core.Path.{_≡_, sym, ap, _∙_}
+use mathlib.Core.List.{List, _++_, append-assoc}
+use lib.ListN.{length, take, drop, length-append, length-drop}
+use lib.Seq.{length-take-le, drop-drop, take-at, drop-at}
+use borrow.Rule.Slice.PartMut.{putMid, mid-len, same-len-mid}
+use Rattle.lists.specs.Sums.{at, bit, Every}
+use Rattle.lists.specs.ListLaws.{length-listOf}
+use Rattle.lists.specs.Few.{Few}
+use Rattle.meaning.specs.Plan.{Plan, Limits, Coloured, ConstraintLimits, constraintAt, constraintsOf, mostSectors}
+use Rattle.meaning.specs.Joined.{labels, leads}
+use Rattle.meaning.specs.Kinds.{whole, crosses, areaOf, border, counts, loads, total}
+use Rattle.neighbours.specs.Net.{Net, table-net}
+use Rattle.judge.specs.declared.Figures.{Figures}
+use Rattle.judge.specs.Figures.{figuresOf, figuresBy, gauges, gaugesBy, constraintCount, totalBy, tally}
+use Rattle.judge.specs.Small.{mostLoad, SmallEdges, SmallTallies, Small, edges-small, tallies-small, loads-small, plan-small}
+use Rattle.judge.specs.Tallies.{Tallying, plan-tallying, counts-by, loads-by}
+use Rattle.judge.specs.FigureLaws.{figures-by, gauges-by, total-by}
+use Rattle.relabel.specs.Labelling.{Labellable}
+use Rattle.engine.specs.State.{memory, memoryLength, Setting, Opening, Opened}
+use Rattle.engine.specs.Memory.{Kept, both-length, memory-kept, kept-counts, kept-loads}
+
+-- ---- three lists put down in a row
+
+-- the S numbers from index R on
+abbrev pub firstPart : ℕ → ℕ → List ℕ → List ℕ
+firstPart R S w = take (R + S - R) (drop R w)
+
+-- the S numbers after them
+abbrev pub secondPart : ℕ → ℕ → List ℕ → List ℕ
+secondPart R S w = take (R + S + S - (R + S)) (drop (R + S) w)
+
+-- others put in the place of the first
+abbrev pub firstPut : ℕ → ℕ → List ℕ → List ℕ → List ℕ
+firstPut R S w cs = putMid R (R + S - R) w cs
+
+-- and of the second
+abbrev pub secondPut : ℕ → ℕ → List ℕ → List ℕ → List ℕ
+secondPut R S w xs = putMid (R + S) (R + S + S - (R + S)) w xs
+
+-- there are S of the first
+first-length : (R S : ℕ) (w : List ℕ) → R + 2 * S ≤ length w → length (firstPart R S w) ≡ S
+first-length R S w h = mid-len R (R + S) w (omega arith) ∙ omega arith
+
+-- and of the second
+second-length : (R S : ℕ) (w : List ℕ) → R + 2 * S ≤ length w → length (secondPart R S w) ≡ S
+second-length R S w h = mid-len (R + S) (R + S + S) w (omega arith) ∙ omega arith
+
+-- a list put down at index n, in front of which p stands
+put-at : (n k : ℕ) (p r ys : List ℕ) → length p ≡ n → putMid n k (p ++ r) ys ≡ p ++ ys ++ drop k r
+put-at n k p r ys h = rw (take-at p r n h, drop-at p r n h) (sym (append-assoc p ys (drop k r)))
+
+module _ {R S : ℕ} (ls cs xs w : List ℕ) (hl : length ls ≡ R) (hc : length cs ≡ S) where
+  -- the first in its place
+  first-put : firstPut R S (ls ++ drop R w) cs ≡ ls ++ cs ++ drop (R + S) w
+  first-put =
+      let e : R + (R + S - R) ≡ R + S = omega arith in
+      put-at R (R + S - R) ls (drop R w) cs hl ∙ ap (λ (r : List ℕ). ls ++ cs ++ r) (drop-drop (R + S - R) R w ∙ ap (λ (n : ℕ). drop n w) e)
+
+  -- and the second in its
+  both-put : secondPut R S (firstPut R S (ls ++ drop R w) cs) xs ≡ ls ++ cs ++ xs ++ drop (R + 2 * S) w
+  both-put =
+      let e : R + S + (R + S + S - (R + S)) ≡ R + 2 * S = omega arith in
+      ap (λ (m : List ℕ). secondPut R S m xs) first-put
+      ∙ put-at (R + S) (R + S + S - (R + S)) (ls ++ cs) (drop (R + S) w) xs (both-length ls cs hl hc)
+      ∙ ap (λ (r : List ℕ). ls ++ cs ++ xs ++ r) (drop-drop (R + S + S - (R + S)) (R + S) w ∙ ap (λ (n : ℕ). drop n w) e)
+
+-- ---- laying out
+
+-- what laying out finds: a colouring, and room for the front of the work memory
+pub record Blank (P : Plan) (start near col w q : List ℕ) : Type 0 where
+  pub limits : Limits P
+  pub net : Net (P .R) (P .edges) start near
+  pub coloured : Coloured P col
+  pub room : memoryLength P ≤ length w
+  pub queue : P .R < length q
+
+module _ {P : Plan} {start near col w q : List ℕ} (b : Blank P start near col w q) where
+  -- the regions can be labelled
+  pub blank-labellable : Labellable (length start - 1) (P .edges) start near col (take (P .R) w) q
+  blank-labellable =
+      let r : length start - 1 ≡ P .R = omega (arith, b .net .size) in
+      rw r
+      (record {
+        net = b .net;
+        ready = record { size = b .coloured .size; room = b .queue; plain = λ u i. omega (arith, b .coloured .sector u i, b .limits .S) };
+        size = length-take-le (P .R) w (omega (arith, b .room));
+      })
+
+  -- there is a number for each region in front
+  pub blank-front : length (take (P .R) w) ≡ P .R
+  blank-front = length-take-le (P .R) w (omega (arith, b .room))
+
+  module _ (ls : List ℕ) (hl : length ls ≡ length (take (P .R) w)) where
+    -- there is a label for each region
+    long : length ls ≡ P .R
+    long = hl ∙ blank-front
+
+    -- the work memory is as long as it was
+    labelled-length : length (ls ++ drop (P .R) w) ≡ length w
+    labelled-length = length-append ls (drop (P .R) w) ∙ omega (arith, long, length-drop (P .R) w, b .room)
+
+    -- they stand in front
+    pub labelled-front : length (take (P .R) (ls ++ drop (P .R) w)) ≡ P .R
+    labelled-front = ap length (take-at ls (drop (P .R) w) (P .R) long) ∙ long
+
+    -- there is room for the components
+    first-room : length (firstPart (P .R) (P .S) (ls ++ drop (P .R) w)) ≡ P .S
+    first-room = first-length (P .R) (P .S) (ls ++ drop (P .R) w) (omega (arith, labelled-length, b .room))
+
+    module _ {col′ : List ℕ} (k : col′ ≡ col) where
+      -- the components can be counted
+      pub blank-components : (ls′ : List ℕ) → length (take (P .R) ls′) ≡ P .R → Tallying (length (firstPart (P .R) (P .S) (ls ++ drop (P .R) w))) (take (P .R) ls′) col′
+      blank-components ls′ h = rw (first-room, k) (plan-tallying P (b .limits) (b .coloured) h)
+
+      module _ (cs : List ℕ) (hc : length cs ≡ length (firstPart (P .R) (P .S) (ls ++ drop (P .R) w))) where
+        -- the work memory is as long as it was
+        counted-length : length (firstPut (P .R) (P .S) (ls ++ drop (P .R) w) cs) ≡ length w
+        counted-length = same-len-mid (P .R) (P .R + P .S - P .R) (ls ++ drop (P .R) w) cs hc ∙ labelled-length
+
+        -- there is room for the workloads
+        second-room : length (secondPart (P .R) (P .S) (firstPut (P .R) (P .S) (ls ++ drop (P .R) w) cs)) ≡ P .S
+        second-room = second-length (P .R) (P .S) (firstPut (P .R) (P .S) (ls ++ drop (P .R) w) cs) (omega (arith, counted-length, b .room))
+
+        -- the workloads can be summed
+        pub blank-workloads : Tallying (length (secondPart (P .R) (P .S) (firstPut (P .R) (P .S) (ls ++ drop (P .R) w) cs))) (P .workloads) col′
+        blank-workloads = rw (second-room, k) (plan-tallying P (b .limits) (b .coloured) (b .limits .workloads))
+
+        -- the work memory is as long as it was
+        pub summed-length : (xs : List ℕ) → length xs ≡ length (secondPart (P .R) (P .S) (firstPut (P .R) (P .S) (ls ++ drop (P .R) w) cs)) → length (secondPut (P .R) (P .S) (firstPut (P .R) (P .S) (ls ++ drop (P .R) w) cs) xs) ≡ length w
+        summed-length xs hx = same-len-mid (P .R + P .S) (P .R + P .S + P .S - (P .R + P .S)) (firstPut (P .R) (P .S) (ls ++ drop (P .R) w) cs) xs hx ∙ counted-length
+
+        -- and starts with that of the colouring
+        pub laid-out : (z : List ℕ) {ls′ xs : List ℕ} → ls ≡ labels (P .edges) col
+            → ls′ ≡ take (P .R) (ls ++ drop (P .R) w) ++ drop (length (take (P .R) (ls ++ drop (P .R) w))) z
+            → cs ≡ tally (length (firstPart (P .R) (P .S) (ls ++ drop (P .R) w))) col′ (λ u. bit (leads (take (P .R) ls′) u)) (length col′)
+            → xs ≡ tally (length (secondPart (P .R) (P .S) (firstPut (P .R) (P .S) (ls ++ drop (P .R) w) cs))) col′ (at (P .workloads)) (length col′)
+            → secondPut (P .R) (P .S) (firstPut (P .R) (P .S) (ls ++ drop (P .R) w) cs) xs ≡ memory P col ++ drop (memoryLength P) w
+        unfolding memory
+        laid-out z {ls′} {xs} el ec et ex =
+            let copied : take (P .R) ls′ ≡ labels (P .edges) col = ap (take (P .R)) ec ∙ take-at (take (P .R) (ls ++ drop (P .R) w)) _ (P .R) labelled-front ∙ take-at ls (drop (P .R) w) (P .R) long ∙ el in
+            let components : cs ≡ counts P col = et ∙ rw (first-room, k, copied) (counts-by P col (b .coloured)) in
+            let workloads : xs ≡ loads P col = ex ∙ rw (second-room, k) (loads-by P col (b .coloured)) in
+            both-put ls cs xs w long (hc ∙ first-room) ∙ rw (el, components, workloads)
+
+-- ---- judging
+
+module _ {P : Plan} {W : ℕ} {start near areas col w gs q : List ℕ} (s : Setting P W start near areas q) (o : Opening P col w gs) where
+  -- the front can be laid out
+  pub opening-blank : Blank P start near col w q
+  opening-blank =
+      record { limits = s .limits; net = table-net (s .table); coloured = o .coloured; room = o .room; queue = s .queue }
+
+  module _ {col′ : List ℕ} (k : col′ ≡ col) where
+    -- the edges are few, and their ends are regions
+    pub opening-edges : SmallEdges (length col′) (P .edges)
+    opening-edges = rw (k, o .coloured .size) (edges-small P (s .limits))
+
+    -- they make the border
+    opening-border : {t : ℕ} → t ≡ areaOf (P .edges) (crosses col′) → t ≡ border P col
+    unfolding border
+    opening-border e = e ∙ rw k
+
+  module _ {w′ : List ℕ} (m : w′ ≡ memory P col ++ drop (memoryLength P) w) where
+    -- the front is that of the colouring
+    kept : Kept P col w′
+    kept = memory-kept (s .limits) (o .coloured) w m (o .room)
+
+    -- the component counts are read
+    counts-read : firstPart (P .R) (P .S) w′ ≡ counts P col
+    counts-read = let e : P .R + P .S - P .R ≡ P .S = omega arith in rw e (kept-counts kept)
+
+    -- and the workload sums
+    loads-read : secondPart (P .R) (P .S) w′ ≡ loads P col
+    loads-read = let e : P .R + P .S + P .S - (P .R + P .S) ≡ P .S = omega arith in rw e (kept-loads kept)
+
+    -- they are small
+    pub opening-tallies : SmallTallies (P .S) W (firstPart (P .R) (P .S) w′) (secondPart (P .R) (P .S) w′)
+    opening-tallies = rw (counts-read, loads-read, s .whole) (tallies-small P (s .limits) col)
+
+    module _ (constraints : List ℕ) (c : P .constraints ≡ constraintsOf constraints) where
+      -- the gauges can be made
+      pub opening-gauging : Few mostSectors mostLoad (secondPart (P .R) (P .S) w′) × (Every ConstraintLimits (constraintsOf constraints) × (length gs ≡ constraintCount constraints))
+      unfolding constraintsOf
+      opening-gauging =
+          (rw loads-read (loads-small P (s .limits) col), (rw c at (s .limits .constraint), o .gauges ∙ ap length c ∙ length-listOf (constraintCount constraints) (constraintAt constraints)))
+
+      module _ {col′ : List ℕ} (k : col′ ≡ col) {t : ℕ} (e : t ≡ areaOf (P .edges) (crosses col′)) {F : Figures} (f : F ≡ figuresBy (P .S) W (firstPart (P .R) (P .S) w′) (secondPart (P .R) (P .S) w′) t) {gs′ : List ℕ} (g : gs′ ≡ gaugesBy (secondPart (P .R) (P .S) w′) constraints) where
+        -- the figures are those of the colouring
+        opening-figures : F ≡ figuresOf P col
+        opening-figures = f ∙ rw (counts-read, loads-read, s .whole, opening-border k e) (figures-by P col (o .coloured))
+
+        -- and so are the gauges
+        opening-gauges : gs′ ≡ gauges P col
+        opening-gauges = g ∙ rw loads-read (gauges-by P col constraints c)
+
+        -- the total can be made
+        pub opening-small : Small F gs′ constraints
+        opening-small = rw (opening-figures, opening-gauges) (plan-small P (s .limits) col constraints c)
+
+        -- all is that of the colouring
+        pub opening-opened : {x : ℕ} → x ≡ totalBy F gs′ constraints (constraintCount constraints) → Opened P col w col′ w′ gs′ (record { figures = F; total = x })
+        opening-opened p =
+            record {
+              colouring = k;
+              work = m;
+              gauges = opening-gauges;
+              standing = rw (p, opening-figures, opening-gauges, total-by P col constraints c);
+            }

@@ -1,0 +1,251 @@
+// The moves on a colouring, with all that is kept of it brought up to date.
+ghost use mathlib.Core.Path.{_≡_};
+ghost use Prim.Native.Nat.{_<_, _^_};
+ghost use lib.ListN.{length};
+ghost use lib.IntN.{pos, _-ℤ_};
+ghost use Rattle.meaning.specs.Plan.{Plan, planOf};
+ghost use Rattle.engine.specs.State.{Setting, Ready, Within, Opening, Opened, Answered};
+use judge::Figures;
+use terms::Move;
+
+pub mod memory; // memory.rt: the front of the work memory
+pub mod recolour; // recolour.rt: a recolouring, probed or made
+pub mod exchange; // exchange.rt: an exchange, probed or made
+pub mod ask; // ask.rt: a region's violation
+
+// The figures and the total of the colouring as it stands.
+pub struct Standing {
+    pub figures: Figures,
+    pub total: u64,
+}
+
+// What stands after a made move, and how many labels it changed.
+pub struct Made {
+    pub standing: Standing,
+    pub relabelled: u64,
+}
+
+// What a move answers, and what stands after it.
+pub struct Stepped {
+    pub standing: Standing,
+    pub delta: i64,
+    pub relabelled: u64,
+}
+
+// The total after less the total before.
+fn delta(after: u64, before: u64) -> i64
+    requires { ⌜ (after < 2 ^ 63) × (before < 2 ^ 63) ⌝ }
+    ensures { λ r. ⌜ r ≡ pos after -ℤ pos before ⌝ }
+{
+    after as i64 - before as i64
+}
+
+// Does what a move asks for, and answers it: a probe, a question and a refused move leave all as it was.
+pub fn step(
+    sectors: u64,
+    whole: u64,
+    workloads: &[u64],
+    edges: &[u64],
+    constraints: &[u64],
+    start: &[u64],
+    near: &[u64],
+    areas: &[u64],
+    colouring: &mut [u64],
+    work: &mut [u64],
+    gauges: &mut [u64],
+    queue: &mut [u64],
+    standing: Standing,
+    asked: Move,
+) -> Stepped
+    ghost { Plan }
+    requires { λ P. ⌜ planOf (length (now workloads)) sectors (now workloads) (now edges) (now constraints) ≡ P ⌝ }
+    requires { λ P. ⌜ Setting P whole (now start) (now near) (now areas) (now queue) ⌝ }
+    requires { λ P. ⌜ Ready P (now colouring) (now work) (now gauges) standing ⌝ }
+    requires { λ P. ⌜ Within P asked ⌝ }
+    ensures { λ P r. ⌜ Answered P (now (colouring .entry)) (now (work .entry)) asked (now (colouring .exit)) (now (work .exit)) (now (gauges .exit)) r ⌝ }
+{
+    let before = standing.total;
+    match asked {
+        Move::Recolour {
+            make,
+            region,
+            sector,
+        } => {
+            if make {
+                let made = recolour::make(
+                    sectors,
+                    whole,
+                    workloads,
+                    edges,
+                    constraints,
+                    start,
+                    near,
+                    areas,
+                    colouring,
+                    work,
+                    gauges,
+                    queue,
+                    standing,
+                    region.0,
+                    sector.0,
+                );
+                let after = made.standing;
+                return Stepped {
+                    standing: after,
+                    delta: delta(after.total, before),
+                    relabelled: made.relabelled,
+                };
+            }
+            let total = recolour::probe(
+                sectors,
+                whole,
+                workloads,
+                edges,
+                constraints,
+                start,
+                near,
+                areas,
+                colouring,
+                work,
+                gauges,
+                queue,
+                standing,
+                region.0,
+                sector.0,
+            );
+            return Stepped {
+                standing,
+                delta: delta(total, before),
+                relabelled: 0,
+            };
+        }
+        Move::Exchange {
+            make,
+            first,
+            second,
+        } => {
+            if make {
+                let made = exchange::make(
+                    sectors,
+                    whole,
+                    workloads,
+                    edges,
+                    constraints,
+                    start,
+                    near,
+                    areas,
+                    colouring,
+                    work,
+                    gauges,
+                    queue,
+                    standing,
+                    first.0,
+                    second.0,
+                );
+                let after = made.standing;
+                return Stepped {
+                    standing: after,
+                    delta: delta(after.total, before),
+                    relabelled: made.relabelled,
+                };
+            }
+            let total = exchange::probe(
+                sectors,
+                whole,
+                workloads,
+                edges,
+                constraints,
+                start,
+                near,
+                areas,
+                colouring,
+                work,
+                gauges,
+                queue,
+                standing,
+                first.0,
+                second.0,
+            );
+            return Stepped {
+                standing,
+                delta: delta(total, before),
+                relabelled: 0,
+            };
+        }
+        Move::Ask(region) => {
+            let violation = ask::region_violation(
+                sectors,
+                whole,
+                workloads,
+                edges,
+                constraints,
+                start,
+                near,
+                areas,
+                colouring,
+                work,
+                region.0,
+            );
+            return Stepped {
+                standing,
+                delta: delta(violation, 0),
+                relabelled: 0,
+            };
+        }
+        Move::Refused(_) => {
+            return Stepped {
+                standing,
+                delta: 0,
+                relabelled: 0,
+            };
+        }
+    }
+}
+
+// Judges the colouring from scratch into the front of the work memory and into the gauges.
+pub fn begin(
+    sectors: u64,
+    whole: u64,
+    workloads: &[u64],
+    edges: &[u64],
+    constraints: &[u64],
+    start: &[u64],
+    near: &[u64],
+    areas: &[u64],
+    colouring: &mut [u64],
+    work: &mut [u64],
+    gauges: &mut [u64],
+    queue: &mut [u64],
+) -> Standing
+    ghost { Plan }
+    requires { λ P. ⌜ planOf (length (now workloads)) sectors (now workloads) (now edges) (now constraints) ≡ P ⌝ }
+    requires { λ P. ⌜ Setting P whole (now start) (now near) (now areas) (now queue) ⌝ }
+    requires { λ P. ⌜ Opening P (now colouring) (now work) (now gauges) ⌝ }
+    ensures { λ P r. ⌜ Opened P (now (colouring .entry)) (now (work .entry)) (now (colouring .exit)) (now (work .exit)) (now (gauges .exit)) r ⌝ }
+{
+    memory::lay_out(
+        sectors,
+        workloads,
+        edges,
+        constraints,
+        start,
+        near,
+        colouring,
+        work,
+        queue,
+    );
+    let regions = workloads.len();
+    let counts_end = regions + sectors as usize;
+    let loads_end = counts_end + sectors as usize;
+    let border = judge::tallies::border_of(edges, colouring);
+    let figures = judge::measures::figures_of(
+        sectors,
+        whole,
+        &work[regions..counts_end],
+        &work[counts_end..loads_end],
+        border,
+    );
+    judge::measures::gauge_all(constraints, &work[counts_end..loads_end], gauges);
+    let total = judge::verdicts::total(constraints, figures, gauges);
+    Standing { figures, total }
+}
