@@ -72,17 +72,19 @@ module _ {P : Plan} {W : ℕ} {start near areas col w gs q : List ℕ} {s : Stan
     exchanging-total e = e ∙ ap (total P) both
 
     -- made, it leaves what is kept of the exchange, and the labels before and after both are compared
-    pub exchanging-remade : {col₂ w₂ gs₂ old : List ℕ} (r : List ℕ) {m₂ : Made} {n : ℕ} → Remade P col₁ w₁ (recolour col₁ b (at col a)) col₂ w₂ gs₂ m₂
-        → old ≡ take (P .R) w ++ r → n ≡ differing (length (take (P .R) old)) (take (P .R) old) (take (P .R) w₂)
-        → Remade P col w (swap col a b) col₂ w₂ gs₂ (record { standing = m₂ .standing; relabelled = n })
+    pub exchanging-remade : {col₂ w₂ gs₂ old : List ℕ} (r : List ℕ) {m₂ m₃ : Made} {n : ℕ} → Remade P col₁ w₁ (recolour col₁ b (at col a)) col₂ w₂ gs₂ m₂
+        → old ≡ take (P .R) w ++ r
+        → n ≡ differing (length (take (P .R) old)) (take (P .R) old) (take (P .R) w₂)
+        → (m₃ .standing ≡ m₂ .standing) × (m₃ .relabelled ≡ n)
+        → Remade P col w (swap col a b) col₂ w₂ gs₂ m₃
     unfolding relabelled
-    exchanging-remade r g o e =
+    exchanging-remade r g o e c =
         let x = left-from (rw both at (g .left)) beyond in
         let size : length (take (P .R) w) ≡ P .R = length-take-le (P .R) w (omega (arith, k .ready .room)) in
         let before = ap (take (P .R)) o ∙ take-at (take (P .R) w) r (P .R) size in
         let first = kept-labels (ready-kept (k .setting .limits) (k .ready)) in
         let last = kept-labels (left-kept (k .setting .limits) (coloured-recolour between (k .second) (k .ready .coloured .sector a (k .first))) x (k .ready .room)) in
-        record { left = x; standing = rw both at (g .standing); relabelled = rw (before, size, first, last) at e }
+        record { left = x; standing = c .0 ∙ rw both at (g .standing); relabelled = c .1 ∙ rw (before, size, first, last) at e }
 
     module _ {col₂ : List ℕ} (same : col₂ ≡ col₁) where
       -- after a probe the first is given back to its old sector

@@ -73,7 +73,7 @@ pub fn probe(
         work,
         gauges,
         queue,
-        once,
+        once, // what stands after the first
         second,
         own,
     );
@@ -95,6 +95,18 @@ pub fn probe(
         own, // the sector that it had
     );
     total
+}
+
+// What a made recolouring answers, with its new labels counted from an earlier colouring.
+fn recounted(made: Made, relabelled: u64) -> Made
+    ensures { λ r. ⌜ r .standing ≡ made .standing ⌝ }
+    ensures { λ r. ⌜ r .relabelled ≡ relabelled ⌝ }
+{
+    let standing = made.standing;
+    Made {
+        standing,
+        relabelled,
+    }
 }
 
 // Gives the two regions each other's sectors, and answers what stands then and how many labels are new after both recolourings.
@@ -166,9 +178,5 @@ pub fn make(
         second,
         from,
     );
-    let standing = both.standing;
-    Made {
-        standing,
-        relabelled: differing(&labels[..regions], &work[..regions]),
-    }
+    recounted(both, differing(&labels[..regions], &work[..regions]))
 }

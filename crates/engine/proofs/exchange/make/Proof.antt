@@ -29,6 +29,10 @@ labels-size c = length-take-le _ (c .copy .last .1 .0) (kept c)
 room : (c : tie.After-make2) → regions (c .before .before .before .before .before .before .before .before .before .before .before .before .before .before .before .before .before .before .before .before .before .before .before) ≤ length (c .make2 .last .1 .1 .1 .1 .1 .1 .1 .1 .1 .0)
 room c = omega (arith, c .make2 .kept .1 .1 .1 .1 .1 .1 .1 .1 .1 .0, c .before .before .before .before .before .before .before .before .before .before .before .before .before .before .make .kept .1 .1 .1 .1 .1 .1 .1 .1 .1 .0, entry (c .before .before .before .before .before .before .before .before .before .before .before .before .before .before .before .before .before .before .before .before .before .before .before) .pre .ready .room)
 
+-- and one stands there for each
+work-size : (c : tie.After-make2) → length (take (regions (c .before .before .before .before .before .before .before .before .before .before .before .before .before .before .before .before .before .before .before .before .before .before .before)) (c .make2 .last .1 .1 .1 .1 .1 .1 .1 .1 .1 .0)) ≡ regions (c .before .before .before .before .before .before .before .before .before .before .before .before .before .before .before .before .before .before .before .before .before .before .before)
+work-size c = length-take-le _ (c .make2 .last .1 .1 .1 .1 .1 .1 .1 .1 .1 .0) (room c)
+
 sub-from : tie.Need-sub-from
 sub-from c = search needs
 
@@ -75,35 +79,38 @@ make-requires-2 c κs =
     exchanging-second (entry (c .before .before .before .before .before .before .before .before .before .before .before .before .before .before .before .before .before .before .before .before .before .before) .pre) (m .ensures) (m .kept .1 .1 .1 .1 .1 .1 .1 .1 .1 .1 .1 .0)
 
 array-share-prefix-labels : tie.Need-array-share-prefix-labels
-array-share-prefix-labels c = kept (c .before .before .before .before .before .before .before .before .before .before .before .before .before .before .before .before .before .before .before .before .before .before .before .before .before .before .before .before .before)
+array-share-prefix-labels c = kept (c .before .before .before .before .before .before .before .before .before .before .before .before .before .before .before .before .before .before .before .before .before .before .before .before .before .before .before .before)
 
 slice-aggregate-differing : tie.Need-slice-aggregate-differing
-slice-aggregate-differing c = sym (labels-size (c .before .before .before .before .before .before .before .before .before .before .before .before .before .before .before .before .before .before .before .before .before .before .before .before .before .before .before .before .before .before))
+slice-aggregate-differing c = sym (labels-size (c .before .before .before .before .before .before .before .before .before .before .before .before .before .before .before .before .before .before .before .before .before .before .before .before .before .before .before .before .before))
 
 slice-reshare-prefix-differing : tie.Need-slice-reshare-prefix-differing
-slice-reshare-prefix-differing c = room (c .before .before .before .before .before .before .before .before .before .before)
+slice-reshare-prefix-differing c = room (c .before .before .before .before .before .before .before .before .before)
 
 slice-aggregate-differing-2 : tie.Need-slice-aggregate-differing-2
-slice-aggregate-differing-2 c = sym (length-take-le _ (c .before .before .before .before .before .before .before .before .before .before .before .make2 .last .1 .1 .1 .1 .1 .1 .1 .1 .1 .0) (room (c .before .before .before .before .before .before .before .before .before .before .before)))
+slice-aggregate-differing-2 c = sym (work-size (c .before .before .before .before .before .before .before .before .before .before))
 
 differing-requires : tie.Need-differing-requires
-differing-requires c κs = labels-size (c .before .before .before .before .before .before .before .before .before .before .before .before .before .before .before .before .before .before .before .before .before .before .before .before .before .before .before .before .before .before .before) ∙ sym (length-take-le _ (c .before .before .before .before .before .before .before .before .before .before .before .make2 .last .1 .1 .1 .1 .1 .1 .1 .1 .1 .0) (room (c .before .before .before .before .before .before .before .before .before .before .before)))
+differing-requires c κs = labels-size (c .before .before .before .before .before .before .before .before .before .before .before .before .before .before .before .before .before .before .before .before .before .before .before .before .before .before .before .before .before .before) ∙ sym (work-size (c .before .before .before .before .before .before .before .before .before .before))
+
+recounted-requires : tie.Need-recounted-requires
+recounted-requires c κs = search needs
 
 same-length : tie.Need-same-length
-same-length c = search needs
+same-length c = c .before .before .before .before .before .before .before .before .before .before .before .before .make2 .kept .1 .1 .1 .1 .1 .1 .1 .1 .0 ∙ c .before .before .before .before .before .before .before .before .before .before .before .before .before .before .before .before .before .before .before .before .before .before .before .before .before .before .make .kept .1 .1 .1 .1 .1 .1 .1 .1 .0
 
 same-length-2 : tie.Need-same-length-2
-same-length-2 c = search needs
+same-length-2 c = c .before .before .before .before .before .before .before .before .before .before .before .before .make2 .kept .1 .1 .1 .1 .1 .1 .1 .1 .1 .0 ∙ c .before .before .before .before .before .before .before .before .before .before .before .before .before .before .before .before .before .before .before .before .before .before .before .before .before .before .make .kept .1 .1 .1 .1 .1 .1 .1 .1 .1 .0
 
 same-length-3 : tie.Need-same-length-3
-same-length-3 c = search needs
+same-length-3 c = c .before .before .before .before .before .before .before .before .before .before .before .before .make2 .kept .1 .1 .1 .1 .1 .1 .1 .1 .1 .1 .0 ∙ c .before .before .before .before .before .before .before .before .before .before .before .before .before .before .before .before .before .before .before .before .before .before .before .before .before .before .make .kept .1 .1 .1 .1 .1 .1 .1 .1 .1 .1 .0
 
 same-length-4 : tie.Need-same-length-4
 same-length-4 c = search needs
 
 returns-2 : tie.Need-returns-2
 returns-2 c =
-    exchanging-remade (entry (c .before .before .before .before .before .before .before .before .before .before .before .before .before .before .before .before .before .before .before .before .before .before .before .before .before .before .before .before .before .before .before .before .before .before .before) .pre) (c .before .before .before .before .before .before .before .before .before .before .before .before .before .before .before .before .before .before .before .before .before .before .before .before .before .before .make .ensures) _ (c .before .before .before .before .before .before .before .before .before .before .before .before .make2 .ensures) (c .before .before .before .before .before .before .before .before .before .before .before .before .before .before .before .before .before .before .before .before .before .before .before .before .before .before .before .before .before .before .before .before .copy .ensures) (c .differing .ensures)
+    exchanging-remade (entry (c .before .before .before .before .before .before .before .before .before .before .before .before .before .before .before .before .before .before .before .before .before .before .before .before .before .before .before .before .before .before .before .before .before .before .before) .pre) (c .before .before .before .before .before .before .before .before .before .before .before .before .before .before .before .before .before .before .before .before .before .before .before .before .before .before .make .ensures) _ (c .before .before .before .before .before .before .before .before .before .before .before .before .make2 .ensures) (c .before .before .before .before .before .before .before .before .before .before .before .before .before .before .before .before .before .before .before .before .before .before .before .before .before .before .before .before .before .before .before .before .copy .ensures) (c .before .differing .ensures) (c .recounted .ensures)
 
 pub make-spec : {M : Type 1} → statement M
 make-spec =
@@ -127,6 +134,7 @@ make-spec =
     slice-reshare-prefix-differing
     slice-aggregate-differing-2
     differing-requires
+    recounted-requires
     same-length
     same-length-2
     same-length-3
