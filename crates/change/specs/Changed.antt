@@ -1,171 +1,101 @@
--- What a change says of a recolouring, and that the figures, the gauges and the total after it are those of the new colouring.
+-- What changes between two colourings, where only two sectors differ in components and workload: by a recolouring, or by two in turn.
 -- Assumes nothing.
-use Prim.Native.Nat.{ℕ, _+_, _-_, _*_, _≤_, _<_, _^_}
-use native.Mathlib.Nat.{mul-le-mul}
+use Prim.Native.Nat.{ℕ, _+_, _-_, _*_, _≤_}
 use native.Mathlib.Omega.{arith}
-use mathlib.Core.Path.{_≡_, refl, sym, ap, _∙_}
+use mathlib.Core.Path.{_≡_, _∙_}
 use mathlib.Core.Logic.{_≢_}
-use mathlib.Core.Bool.{Bool, true, false, cond}
-use mathlib.Core.List.{List, map, map-map}
+use mathlib.Core.List.{List}
 use lib.Dec.{eqb}
-use lib.ListN.{getD}
-use Rattle.lists.specs.Sums.{In, at, from, listOf, sum}
-use Rattle.lists.specs.SumLaws.{every-from}
-use Rattle.lists.specs.ListLaws.{map-ext, getD-listOf}
-use Rattle.terms.specs.Distance.{gap, distance}
-use Rattle.terms.specs.DistanceLaws.{distance-bound}
-use Rattle.meaning.specs.Plan.{Constraint, Plan, Limits, ConstraintLimits, Coloured, mostRegions, mostSectors, mostEdges, mostArea, constraintAt, constraintsOf}
-use Rattle.meaning.specs.Kinds.{ncc, load, whole, border, counts, loads, deviation, bounded, total}
+use lib.ListN.{set}
+use Rattle.lists.specs.Sums.{In, at}
+use Rattle.lists.specs.Places.{table-change}
+use Rattle.meaning.specs.Plan.{Plan, Limits, Coloured, mostEdges, mostArea}
+use Rattle.meaning.specs.Kinds.{ncc, load, border, counts, loads, leadsTo}
 use Rattle.meaning.specs.Moves.{recolour}
-use Rattle.meaning.specs.Components.{counts-length, counts-at, loads-length, loads-at, ncc-sum}
-use Rattle.meaning.specs.Bounds.{ncc-bound, load-bound, whole-bound, border-bound}
-use Rattle.meaning.specs.Recoloured.{coloured-recolour, loads-recolour, counts-recolour}
-use Rattle.judge.specs.Figures.{figuresOf, gaugeOf, gauges, constraintCount, totalBy}
-use Rattle.judge.specs.FigureLaws.{total-by}
-use Rattle.judge.specs.Small.{mostLoad, mostGap, mostDistance, tallies-small, plan-small, constraint-limits}
+use Rattle.meaning.specs.Faces.{lift, areaTo}
+use Rattle.meaning.specs.Bounds.{border-bound}
+use Rattle.meaning.specs.Recoloured.{coloured-recolour, load-rest, ncc-rest, border-recolour}
+use Rattle.judge.specs.Small.{edges-small, area-bound}
 use Rattle.change.specs.declared.Pair.{Pair}
 use Rattle.change.specs.declared.Sides.{Sides}
 use Rattle.change.specs.declared.Change.{Change}
-use Rattle.change.specs.Shift.{each, shift, figuresAfter, gaugeAfter, gaugesAfter, totalAfter}
-use Rattle.change.specs.ShiftLaws.{total-by-gauges}
-use Rattle.change.specs.Small.{AtMost, Fits, Shifting, GaugeShifting, GaugesShifting, Totalling}
-use Rattle.change.specs.TwoTerms.{Shifts, shifts-set, shifts-sum, shifts-fit}
+use Rattle.change.specs.Shift.{inTurn}
+use Rattle.change.specs.Small.{Addable}
 
--- the numbers of the sector that v leaves and of d, the one that it comes to
-abbrev pub pairOf : (ℕ → ℕ) → List ℕ → ℕ → ℕ → Pair
-pairOf f col v d = record { old = f (at col v); new = f d }
+-- the numbers of two sectors
+abbrev pub pairOf : (ℕ → ℕ) → ℕ → ℕ → Pair
+pairOf f own d = record { old = f own; new = f d }
 
--- the components and the workloads of the two sectors, in the colouring now
-abbrev pub sidesOf : Plan → List ℕ → List ℕ → ℕ → ℕ → Sides
-sidesOf P now col v d = record { components = pairOf (ncc P now) col v d; workloads = pairOf (load P now) col v d }
+-- the components and the workloads of two sectors in a colouring
+abbrev pub sidesOf : Plan → List ℕ → ℕ → ℕ → Sides
+sidesOf P col own d = record { components = pairOf (ncc P col) own d; workloads = pairOf (load P col) own d }
 
--- the change is that of giving region v to sector d, and the border gains no more than there can be
-pub record Changed (P : Plan) (col : List ℕ) (v d : ℕ) (c : Change) : Type 0 where
-  pub before : c .before ≡ sidesOf P col col v d
-  pub after : c .after ≡ sidesOf P (recolour col v d) col v d
-  pub border : border P (recolour col v d) + c .lost ≡ border P col + c .gained
-  pub gained : c .gained ≤ mostEdges * mostArea
+-- the change is that from a colouring to another: of all sectors only two differ in components and workload, and the border gains no more than two recolourings can add
+pub record Changed (P : Plan) (col col′ : List ℕ) (own d : ℕ) (c : Change) : Type 0 where
+  pub old : In (P .S) own
+  pub new : In (P .S) d
+  pub other : d ≢ own
+  pub coloured : Coloured P col′
+  pub before : c .before ≡ sidesOf P col own d
+  pub after : c .after ≡ sidesOf P col′ own d
+  pub others : (e : ℕ) → In (P .S) e → e ≢ own → e ≢ d → (ncc P col′ e ≡ ncc P col e) × (load P col′ e ≡ load P col e)
+  pub border : border P col′ + c .lost ≡ border P col + c .gained
+  pub gained : c .gained ≤ 2 * (mostEdges * mostArea)
 
-module _ (P : Plan) (col constraints : List ℕ) (e : P .constraints ≡ constraintsOf constraints) where
-  -- the gauges of a plan, one by one
-  gauges-listOf : gauges P col ≡ listOf (constraintCount constraints) (λ n. gaugeOf P col (constraintAt constraints n))
-  unfolding gauges constraintsOf
-  gauges-listOf = ap (map (gaugeOf P col)) e ∙ map-map (gaugeOf P col) (constraintAt constraints) (from 0 (constraintCount constraints))
+module _ {P : Plan} {col col′ : List ℕ} {own d : ℕ} {c : Change} (ch : Changed P col col′ own d c) where
+  -- the component counts afterwards: two of those before are set anew
+  pub changed-counts : counts P col′ ≡ set (set (counts P col) (own - 1) (ncc P col′ own)) (d - 1) (ncc P col′ d)
+  unfolding counts
+  changed-counts = table-change (ncc P col′) (ncc P col) (ch .old) (ch .new) (λ e h n m. ch .others e h n m .0)
 
-  -- the gauge of each constraint
-  gauge-at : (n : ℕ) → n < constraintCount constraints → getD (gauges P col) n 0 ≡ gaugeOf P col (constraintAt constraints n)
-  gauge-at n h = ap (λ g. getD g n 0) gauges-listOf ∙ getD-listOf (constraintCount constraints) _ 0 n h
+  -- and so the workload sums
+  pub changed-loads : loads P col′ ≡ set (set (loads P col) (own - 1) (load P col′ own)) (d - 1) (load P col′ d)
+  unfolding loads
+  changed-loads = table-change (load P col′) (load P col) (ch .old) (ch .new) (λ e h n m. ch .others e h n m .1)
 
-module _ {P : Plan} {col : List ℕ} {v d : ℕ} {c : Change} (l : Limits P) (k : Coloured P col) (i : In (P .R) v) (j : In (P .S) d) (ne : d ≢ at col v) (ch : Changed P col v d c) where
-  -- the sums over the components of the sectors
-  counts-shift : Shifts (counts P col) (counts P (recolour col v d)) (c .before .components) (c .after .components)
-  counts-shift =
-      rw (ch .before, ch .after, ← counts-at P col (at col v) (k .sector v i), ← counts-at P col d j)
-      (shifts-set (counts P col) (counts-length P col) (k .sector v i) j ne (counts-recolour l k i j ne))
+-- the faces of a region to a sector have no more than the area of all edges
+pub faces-bound : {P : Plan} → Limits P → (col : List ℕ) (v d : ℕ) → areaTo (P .edges) col v d ≤ mostEdges * mostArea
+unfolding areaTo
+faces-bound {P} l col v d = area-bound (edges-small P l) (leadsTo (λ u. eqb (at col u) d) v)
 
-  -- the sums over their workloads
-  loads-shift : Shifts (loads P col) (loads P (recolour col v d)) (c .before .workloads) (c .after .workloads)
-  loads-shift =
-      rw (ch .before, ch .after, ← loads-at P col (at col v) (k .sector v i), ← loads-at P col d j)
-      (shifts-set (loads P col) (loads-length P col) (k .sector v i) j ne (loads-recolour k i j ne))
+-- a region given to another sector is a change, where the numbers are those of the two colourings and of the region's faces
+pub changed-recolour : {P : Plan} {col : List ℕ} {v d : ℕ} {c : Change} → Limits P → Coloured P col → In (P .R) v → In (P .S) d → d ≢ at col v
+    → c .before ≡ sidesOf P col (at col v) d → c .after ≡ sidesOf P (recolour col v d) (at col v) d
+    → c .gained ≡ areaTo (P .edges) (lift col v) v (at col v) → c .lost ≡ areaTo (P .edges) (lift col v) v d
+    → Changed P col (recolour col v d) (at col v) d c
+changed-recolour {col = col} {v = v} l k i j ne before after gained lost =
+    record {
+      old = k .sector v i;
+      new = j;
+      other = ne;
+      coloured = coloured-recolour k i j;
+      before = before;
+      after = after;
+      others = λ e h n m. (ncc-rest l k i j ne e h m n, load-rest k i j ne e h m n);
+      border = rw (gained, lost) (border-recolour l k i j);
+      gained = omega (arith, gained, faces-bound l (lift col v) v (at col v));
+    }
 
-  -- the workloads of the two sectors are small before the change
-  before-small : AtMost mostLoad (c .before .workloads)
-  before-small = rw (ch .before) (record { old = load-bound P l col (at col v); new = load-bound P l col d })
-
-  -- and after it
-  after-small : AtMost mostLoad (c .after .workloads)
-  after-small = rw (ch .after) (record { old = load-bound P l _ (at col v); new = load-bound P l _ d })
-
-  -- a sum over the components can follow the change, where no term is large
-  counts-fit : (f : ℕ → ℕ) → ((n : ℕ) → n ≤ mostRegions → f n ≤ mostRegions) → Fits (sum (counts P col) f) (each f (c .before .components)) (each f (c .after .components))
-  counts-fit f h =
-      shifts-fit counts-shift f (tallies-small P l col .count)
-      (rw (ch .after) (record { old = ncc-bound P l _ (at col v); new = ncc-bound P l _ d })) h (omega arith)
-
-  -- a sum over the workloads can follow it, where no term is above C
-  loads-fit : (f : ℕ → ℕ) {C : ℕ} → ((x : ℕ) → x ≤ mostLoad → f x ≤ C) → (mostSectors + 2) * C < 2 ^ 64 → Fits (sum (loads P col) f) (each f (c .before .workloads)) (each f (c .after .workloads))
-  loads-fit f h room = shifts-fit loads-shift f (tallies-small P l col .load) after-small h room
-
-  -- the figures can follow the change
-  pub shifting : Shifting (P .S) (whole P) (figuresOf P col) c
-  unfolding figuresOf deviation
-  shifting =
+module _ {P : Plan} {col mid col′ : List ℕ} {own d : ℕ} {first second : Change} (f : Changed P col mid own d first) (s : Changed P mid col′ d own second) where
+  -- the areas of two changes can be added up
+  pub changed-addable : Limits P → Addable first second
+  changed-addable l =
       record {
-        components = rw (← ncc-sum P col k) (counts-fit (λ n. n) (λ n h. h));
-        excess = counts-fit (λ n. n - 1) (λ n h. omega arith);
-        lost = omega (arith, ch .border);
-        gained = omega (arith, ch .gained, border-bound P l col);
-        sectors = l .S .high;
-        before = before-small;
-        after = after-small;
-        deviation = loads-fit (λ x. gap (P .S * x) (whole P)) {C = mostGap} (λ x h. omega (arith, mul-le-mul (l .S .high) h, whole-bound P l)) (omega arith);
+        gained = omega (arith, f .gained, s .gained);
+        lost = omega (arith, f .gained, f .border, s .gained, s .border, border-bound P l col, border-bound P l mid);
       }
 
-  -- the figures after the change are those of the new colouring
-  pub figures-after : figuresAfter (P .S) (whole P) (figuresOf P col) c ≡ figuresOf P (recolour col v d)
-  unfolding figuresAfter figuresOf deviation
-  figures-after =
-      rw (
-        ← ncc-sum P col k,
-        ← ncc-sum P (recolour col v d) (coloured-recolour k i j),
-        shifts-sum counts-shift (λ n. n),
-        shifts-sum counts-shift (λ n. n - 1),
-        shifts-sum loads-shift (λ x. gap (P .S * x) (whole P)),
-        e,
-      )
-    where
-      e : border P col + c .gained - c .lost ≡ border P (recolour col v d)
-      e = omega (arith, ch .border)
-
-  -- a gauge can follow the change
-  gauge-shifting : (q : Constraint) → ConstraintLimits q → GaugeShifting (gaugeOf P col q) q c
-  unfolding gaugeOf bounded
-  gauge-shifting q h =
+  -- two changes in turn, of which the second has the sectors the other way round, are one
+  pub changed-in-turn : first .gained + second .gained ≤ 2 * (mostEdges * mostArea) → Changed P col col′ own d (inTurn first second)
+  changed-in-turn few =
       record {
-        constraint = h;
-        before = before-small;
-        after = after-small;
-        bounded = λ four. rw four (loads-fit (λ x. distance (q .relation) x (q .limit)) {C = mostDistance} (λ x m. omega (arith, distance-bound (q .relation) x (q .limit), h .limit)) (omega arith));
+        old = f .old;
+        new = f .new;
+        other = f .other;
+        coloured = s .coloured;
+        before = f .before;
+        after = rw (s .after);
+        others = λ e h n m. (s .others e h m n .0 ∙ f .others e h n m .0, s .others e h m n .1 ∙ f .others e h n m .1);
+        border = omega (arith, f .border, s .border);
+        gained = few;
       }
-
-  -- the gauge after the change is that of the new colouring
-  pub gauge-after : (q : Constraint) → gaugeAfter (gaugeOf P col q) q c ≡ gaugeOf P (recolour col v d) q
-  unfolding gaugeAfter gaugeOf bounded
-  gauge-after q = go (eqb (q .kind) 4)
-    where
-      f : ℕ → ℕ
-      f x = distance (q .relation) x (q .limit)
-
-      go : (t : Bool) → cond t (shift (cond t (sum (loads P col) f) 0) (each f (c .before .workloads)) (each f (c .after .workloads))) 0 ≡ cond t (sum (loads P (recolour col v d)) f) 0
-      go true = shifts-sum loads-shift f
-      go false = refl
-
-  module _ (constraints : List ℕ) (e : P .constraints ≡ constraintsOf constraints) where
-    -- the gauges can follow the change
-    pub gauges-shifting : GaugesShifting (gauges P col) constraints c
-    gauges-shifting =
-        let small = plan-small P l col constraints e in
-        record {
-          size = small .size;
-          gauge = λ n h. rw (gauge-at P col constraints e n h) (gauge-shifting (constraintAt constraints n) (constraint-limits constraints (small .constraint) n h));
-        }
-
-    -- the gauges after the change are those of the new colouring
-    pub gauges-after : gaugesAfter (gauges P col) constraints (constraintCount constraints) c ≡ gauges P (recolour col v d)
-    unfolding gaugesAfter
-    gauges-after =
-        map-ext (from 0 (constraintCount constraints)) _ _
-        (every-from _ 0 (constraintCount constraints) (λ n lo hi. rw (gauge-at P col constraints e n (omega arith)) (gauge-after (constraintAt constraints n))))
-        ∙ sym (gauges-listOf P (recolour col v d) constraints e)
-
-    -- the total after the change can be had
-    pub totalling : Totalling (figuresOf P (recolour col v d)) (gauges P col) constraints c
-    totalling = record { before = gauges-shifting; after = rw gauges-after (plan-small P l (recolour col v d) constraints e) }
-
-    -- the total after the change is that of the new colouring
-    pub total-after : totalAfter (figuresOf P (recolour col v d)) (gauges P col) constraints (constraintCount constraints) c ≡ total P (recolour col v d)
-    total-after =
-        total-by-gauges (gauges P col) constraints (constraintCount constraints) c (figuresOf P (recolour col v d))
-        ∙ ap (λ g. totalBy (figuresOf P (recolour col v d)) g constraints (constraintCount constraints)) gauges-after
-        ∙ total-by P (recolour col v d) constraints e

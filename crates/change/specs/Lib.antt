@@ -4,3 +4,4 @@ pub mod Renewed
 pub mod Small
 pub mod TwoTerms
 pub mod Changed
+pub mod Following

@@ -1,4 +1,4 @@
--- The figures, the gauges and the total after a recolouring, from those before it and from what changes in two sectors.
+-- The figures, the gauges and the total after a change, from those before it and from what changes in two sectors.
 -- Assumes nothing.
 use Prim.Native.Nat.{ℕ, _+_, _-_, _*_}
 use mathlib.Core.Bool.{cond}
@@ -11,6 +11,7 @@ use Rattle.meaning.specs.Plan.{Constraint, constraintAt}
 use Rattle.judge.specs.declared.Figures.{Figures}
 use Rattle.judge.specs.Figures.{violationBy}
 use Rattle.change.specs.declared.Pair.{Pair}
+use Rattle.change.specs.declared.Sides.{Sides}
 use Rattle.change.specs.declared.Change.{Change}
 
 -- f of both numbers
@@ -66,3 +67,21 @@ weightedAfter F gauges constraints c i =
 -- the total after the change, of the first n constraints of the flat list
 unfoldable pub totalAfter : Figures → List ℕ → List ℕ → ℕ → Change → ℕ
 totalAfter F gauges constraints n c = sum (from 0 n) (weightedAfter F gauges constraints c)
+
+-- the two sectors the other way round
+abbrev pub turnedRound : Sides → Sides
+turnedRound s =
+    record {
+      components = record { old = s .components .new; new = s .components .old };
+      workloads = record { old = s .workloads .new; new = s .workloads .old };
+    }
+
+-- two changes in one, the second of which has the two sectors the other way round
+abbrev pub inTurn : Change → Change → Change
+inTurn first second =
+    record {
+      before = first .before;
+      after = turnedRound (second .after);
+      gained = first .gained + second .gained;
+      lost = first .lost + second .lost;
+    }

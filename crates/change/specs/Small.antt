@@ -52,6 +52,11 @@ pub record Totalling (F : Figures) (gauges constraints : List ℕ) (c : Change) 
   pub before : GaugesShifting gauges constraints c
   pub after : Small F (gaugesAfter gauges constraints (constraintCount constraints) c) constraints
 
+-- the areas of two changes can be added up
+pub record Addable (first second : Change) : Type 0 where
+  pub gained : first .gained + second .gained < 2 ^ 64
+  pub lost : first .lost + second .lost < 2 ^ 64
+
 -- a gauge that can follow the change can do so whatever its constraint weighs
 pub gauge-unweighted : {gauge : ℕ} {k : Constraint} {c : Change} → GaugeShifting gauge k c → GaugeShifting gauge (unweighted (k .kind) (k .relation) (k .limit)) c
 gauge-unweighted s =

@@ -1,18 +1,18 @@
-// What a recolouring changes: the two sectors that it concerns, and by them the figures, the gauges and the total after it.
+// What changes between two colourings: the two sectors that it concerns, and by them the figures, the gauges and the total after it.
 ghost use mathlib.Core.Path.{_≡_};
 ghost use Prim.Native.Nat.{_≤_, _<_};
 ghost use Rattle.meaning.specs.Plan.{mostSectors, mostLimit};
 ghost use Rattle.judge.specs.Figures.{constraintCount, unweighted};
 ghost use Rattle.judge.specs.Small.{mostLoad};
-ghost use Rattle.change.specs.Shift.{lessOne, offBalance, offLimit, shift, figuresAfter, gaugeAfter, gaugesAfter, weightedAfter, totalAfter};
-ghost use Rattle.change.specs.Small.{AtMost, Fits, Shifting, GaugeShifting, GaugesShifting, Totalling};
+ghost use Rattle.change.specs.Shift.{lessOne, offBalance, offLimit, shift, figuresAfter, gaugeAfter, gaugesAfter, weightedAfter, totalAfter, turnedRound, inTurn};
+ghost use Rattle.change.specs.Small.{AtMost, Fits, Shifting, GaugeShifting, GaugesShifting, Totalling, Addable};
 use judge::Figures;
 use judge::measures::relation_of;
 use judge::verdicts::violation;
 use terms::Relation;
 use terms::limits;
 
-// Of the two sectors that a recolouring concerns, the one that the region leaves and the one that it comes to, a number each.
+// Of the two sectors that a change concerns, the one that a region leaves and the one that it comes to, a number each.
 pub struct Pair {
     pub old: u64,
     pub new: u64,
@@ -24,7 +24,7 @@ pub struct Sides {
     pub workloads: Pair,
 }
 
-// What a recolouring changes: the two sectors before and after it, and the areas that the border gains and loses.
+// What changes: the two sectors before and after, and the areas that the border gains and loses.
 pub struct Change {
     pub before: Sides,
     pub after: Sides,
@@ -169,4 +169,39 @@ pub fn total_after(constraints: &[u64], figures: Figures, gauges: &[u64], change
         k += 1;
     }
     total
+}
+
+// The two sectors the other way round.
+pub fn turned_round(sides: Sides) -> Sides
+    ensures { λ r. ⌜ r ≡ turnedRound sides ⌝ }
+{
+    let components = Pair {
+        old: sides.components.new,
+        new: sides.components.old,
+    };
+    let workloads = Pair {
+        old: sides.workloads.new,
+        new: sides.workloads.old,
+    };
+    Sides {
+        components,
+        workloads,
+    }
+}
+
+// Two changes in one: the second, which has the two sectors the other way round, is made on what the first leaves.
+pub fn in_turn(first: Change, second: Change) -> Change
+    requires { ⌜ Addable first second ⌝ }
+    ensures { λ r. ⌜ r ≡ inTurn first second ⌝ }
+{
+    let before = first.before;
+    let after = turned_round(second.after);
+    let gained = first.gained + second.gained;
+    let lost = first.lost + second.lost;
+    Change {
+        before,
+        after,
+        gained,
+        lost,
+    }
 }

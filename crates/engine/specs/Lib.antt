@@ -1,7 +1,10 @@
 pub mod State
 pub mod Memory
 pub mod Turning
+pub mod Swapping
 pub mod Remade
+pub mod Changing
+pub mod Settling
 pub mod Recolouring
 pub mod Exchanging
 pub mod Copied

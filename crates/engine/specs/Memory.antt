@@ -92,7 +92,7 @@ module _ {R S : ℕ} (ls cs xs r : List ℕ) (hl : length ls ≡ R) (hc : length
     sides-in = rw (count-in i, count-in j, load-in i, load-in j)
 
     -- what two sectors have is put down
-    sides-put : (s : Sides) → sidesPut (ls ++ cs ++ xs ++ r) R S own d s ≡ ls ++ pairPut cs (own - 1) (d - 1) (s .components) ++ pairPut xs (own - 1) (d - 1) (s .workloads) ++ r
+    pub sides-put : (s : Sides) → sidesPut (ls ++ cs ++ xs ++ r) R S own d s ≡ ls ++ pairPut cs (own - 1) (d - 1) (s .components) ++ pairPut xs (own - 1) (d - 1) (s .workloads) ++ r
     sides-put s =
         let cs′ = pairPut cs (own - 1) (d - 1) (s .components) in
         let long : length cs′ ≡ S = simp length-set hc in
@@ -119,10 +119,6 @@ module _ {P : Plan} {col : List ℕ} (l : Limits P) (k : Coloured P col) where
   memory-length = front-length (labels (P .edges) col) (counts P col) (loads P col) labels-length (counts-length P col) (loads-length P col)
 
   module _ (w : List ℕ) {w′ : List ℕ} (e : w′ ≡ memory P col ++ drop (memoryLength P) w) where
-    -- what lies beyond the front is as it was
-    pub memory-beyond : drop (memoryLength P) w′ ≡ drop (memoryLength P) w
-    memory-beyond = ap (drop (memoryLength P)) e ∙ drop-at (memory P col) _ (memoryLength P) memory-length
-
     -- the front is that of the colouring
     pub memory-kept : memoryLength P ≤ length w → Kept P col w′
     memory-kept room =
@@ -170,9 +166,23 @@ module _ {P : Plan} {col w : List ℕ} (k : Kept P col w) where
         ∙ sides-in (labels (P .edges) col) (counts P col) (loads P col) (drop (memoryLength P) w) (labels-length (k .limits) (k .coloured)) (counts-length P col) (loads-length P col) i j
         ∙ rw (counts-at P col own i, counts-at P col d j, loads-at P col own i, loads-at P col d j)
 
-    -- other labels are put down, and the components and the workloads of two sectors
-    pub kept-put : (ls : List ℕ) (s : Sides) → length ls ≡ P .R → sidesPut (ls ++ drop (P .R) w) (P .R) (P .S) own d s ≡ ls ++ pairPut (counts P col) (own - 1) (d - 1) (s .components) ++ pairPut (loads P col) (own - 1) (d - 1) (s .workloads) ++ drop (memoryLength P) w
-    kept-put ls s h =
-        ap (λ (m : List ℕ). sidesPut (ls ++ m) (P .R) (P .S) own d s) behind
-        ∙ ap (λ (m : List ℕ). sidesPut m (P .R) (P .S) own d s) (sym (append-assoc (ls ++ counts P col) (loads P col) _ ∙ append-assoc ls (counts P col) _))
-        ∙ sides-put ls (counts P col) (loads P col) (drop (memoryLength P) w) h (counts-length P col) (loads-length P col) i j s
+  module _ (ls : List ℕ) (h : length ls ≡ P .R) where
+    -- other labels are put down: the others stand behind them
+    relabelled-apart : ls ++ drop (P .R) w ≡ ls ++ counts P col ++ loads P col ++ drop (memoryLength P) w
+    relabelled-apart = ap (λ (m : List ℕ). ls ++ m) behind ∙ sym (append-assoc (ls ++ counts P col) (loads P col) _ ∙ append-assoc ls (counts P col) _)
+
+    -- they are as many as before
+    front : length (ls ++ counts P col ++ loads P col) ≡ memoryLength P
+    front = front-length ls (counts P col) (loads P col) h (counts-length P col) (loads-length P col)
+
+    -- there is as much room as before
+    pub relabelled-room : memoryLength P ≤ length (ls ++ drop (P .R) w)
+    relabelled-room = omega (arith, length-append ls (drop (P .R) w), length-drop (P .R) w, k .room)
+
+    -- the front has the other labels
+    pub relabelled-front : take (memoryLength P) (ls ++ drop (P .R) w) ≡ ls ++ counts P col ++ loads P col
+    relabelled-front = ap (take (memoryLength P)) relabelled-apart ∙ take-at (ls ++ counts P col ++ loads P col) _ (memoryLength P) front
+
+    -- what lies beyond is as it was
+    pub relabelled-beyond : drop (memoryLength P) (ls ++ drop (P .R) w) ≡ drop (memoryLength P) w
+    relabelled-beyond = ap (drop (memoryLength P)) relabelled-apart ∙ drop-at (ls ++ counts P col ++ loads P col) _ (memoryLength P) front

@@ -1,17 +1,17 @@
--- What a move leaves in the lent memory, and that the next move finds it.
+-- What a move leaves in the lent memory.
 -- Assumes nothing.
-use Prim.Native.Nat.{ℕ, _≤_}
+use Prim.Native.Nat.{ℕ}
 use mathlib.Core.Path.{_≡_, refl, sym}
 use mathlib.Core.List.{List, _++_}
-use lib.ListN.{length, drop}
-use Rattle.meaning.specs.Plan.{Plan, Limits, Coloured}
+use lib.ListN.{drop}
+use Rattle.meaning.specs.Plan.{Plan, Limits}
 use Rattle.meaning.specs.Moves.{relabelled}
 use Rattle.meaning.specs.MoveLaws.{relabelled-none}
 use Rattle.judge.specs.Figures.{gauges}
 use Rattle.engine.specs.declared.Standing.{Standing}
 use Rattle.engine.specs.declared.Made.{Made}
 use Rattle.engine.specs.State.{Ready, memory, memoryLength, standingOf}
-use Rattle.engine.specs.Memory.{Kept, memory-beyond, memory-kept, kept-front}
+use Rattle.engine.specs.Memory.{Kept, kept-front}
 
 -- the lent memory, of which the work memory was w, is left with all that is kept of a colouring
 pub record Left (P : Plan) (w after col′ w′ gs′ : List ℕ) : Type 0 where
@@ -37,22 +37,3 @@ module _ {P : Plan} {col w gs : List ℕ} {s : Standing} (l : Limits P) (r : Rea
   -- and nothing is new
   pub ready-remade : Remade P col w col col w gs (record { standing = s; relabelled = 0 })
   ready-remade = record { left = ready-left refl; standing = r .standing; relabelled = sym (relabelled-none P col) }
-
--- what lies beyond the front of the work memory was so before
-pub left-from : {P : Plan} {w₀ w after col′ w′ gs′ : List ℕ} → Left P w after col′ w′ gs′ → drop (memoryLength P) w ≡ drop (memoryLength P) w₀ → Left P w₀ after col′ w′ gs′
-left-from f e = record { colouring = f .colouring; work = rw e at (f .work); gauges = f .gauges }
-
-module _ {P : Plan} {w after col′ w′ gs′ : List ℕ} (l : Limits P) (k : Coloured P after) (f : Left P w after col′ w′ gs′) where
-  -- what lies beyond the front of the work memory is as it was
-  pub left-beyond : drop (memoryLength P) w′ ≡ drop (memoryLength P) w
-  left-beyond = memory-beyond l k w (f .work)
-
-  -- what the next move finds in the work memory
-  pub left-kept : memoryLength P ≤ length w → Kept P after w′
-  left-kept = memory-kept l k w (f .work)
-
-  -- the next move finds what it wants
-  pub left-ready : {s : Standing} → memoryLength P ≤ length w → s ≡ standingOf P after → Ready P col′ w′ gs′ s
-  left-ready room e =
-      let m = left-kept room in
-      rw (f .colouring) (record { coloured = k; room = m .room; work = m .work; gauges = f .gauges; standing = e })

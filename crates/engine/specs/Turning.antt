@@ -1,35 +1,37 @@
--- What giving a region to another sector changes: the numbers of two sectors, by what stands in the work memory and by a look at the region.
+-- What giving a region to another sector changes: the numbers of two sectors, by those before and by a look at the region.
 -- Assumes nothing.
 use Prim.Native.Nat.{ℕ, _+_, _-_, _*_, _≤_, _<_, _^_}
 use native.Mathlib.Omega.{arith}
-use mathlib.Core.Path.{_≡_, refl, sym, ap, _∙_}
-use mathlib.Core.List.{List, _++_}
+use mathlib.Core.Path.{_≡_, refl, sym, _∙_}
+use mathlib.Core.List.{List}
 use mathlib.Core.Logic.{_≢_}
-use lib.Dec.{eqb}
-use lib.ListN.{length, take, drop}
+use lib.ListN.{length}
 use Rattle.lists.specs.Sums.{In, at}
 use Rattle.meaning.specs.Plan.{Plan, Limits, Coloured, mostEdges, mostArea}
 use Rattle.meaning.specs.Joined.{labels}
-use Rattle.meaning.specs.Kinds.{ncc, load, leadsTo}
-use Rattle.meaning.specs.Moves.{recolour}
-use Rattle.meaning.specs.Faces.{lift, areaTo}
+use Rattle.meaning.specs.Kinds.{ncc, load}
+use Rattle.meaning.specs.Moves.{recolour, differing, relabelled}
+use Rattle.meaning.specs.Faces.{lift}
 use Rattle.meaning.specs.Bounds.{ncc-bound, load-bound}
-use Rattle.meaning.specs.Recoloured.{coloured-recolour, loads-recolour, counts-recolour, load-come, load-go, ncc-come, ncc-go, border-recolour}
+use Rattle.meaning.specs.Recoloured.{load-come, load-go, ncc-come, ncc-go}
 use Rattle.neighbours.specs.Table.{Table}
-use Rattle.judge.specs.Small.{edges-small, area-bound}
+use Rattle.neighbours.specs.Net.{table-net}
 use Rattle.search.specs.declared.Look.{Look}
 use Rattle.search.specs.Looking.{Looking, Looked}
 use Rattle.change.specs.declared.Sides.{Sides}
 use Rattle.change.specs.declared.Change.{Change}
-use Rattle.change.specs.Changed.{sidesOf, Changed}
-use Rattle.engine.specs.State.{memory, memoryLength}
-use Rattle.engine.specs.Memory.{Placed, sidesIn, sidesPut, Kept, labels-length, kept-labels, kept-sides, kept-put}
+use Rattle.change.specs.Changed.{sidesOf, Changed, faces-bound, changed-recolour}
+use Rattle.relabel.specs.Recolouring.{Recolourable}
+use Rattle.engine.specs.declared.Standing.{Standing}
+use Rattle.engine.specs.declared.turn.Turned.{Turned}
+use Rattle.engine.specs.State.{Setting, Ready}
+use Rattle.engine.specs.Memory.{Placed, sidesIn, Kept, kept-sides}
 
 -- the numbers that change do not fall below 0 and do not get too large
 pub record Movable (before : Sides) (workload : ℕ) (look : Look) : Type 0 where
   pub pieces : 1 ≤ before .components .old + look .pieces
   pub room : before .components .old + look .pieces < 2 ^ 64
-  pub touching : look .touching ≤ before .components .new + 1
+  pub touching : look .met .touching ≤ before .components .new + 1
   pub few : before .components .new + 1 < 2 ^ 64
   pub leaves : workload ≤ before .workloads .old
   pub comes : before .workloads .new + workload < 2 ^ 64
@@ -40,78 +42,117 @@ changeOf before workload look =
     record {
       before = before;
       after = record {
-        components = record { old = before .components .old + look .pieces - 1; new = before .components .new + 1 - look .touching };
+        components = record { old = before .components .old + look .pieces - 1; new = before .components .new + 1 - look .met .touching };
         workloads = record { old = before .workloads .old - workload; new = before .workloads .new + workload };
       };
-      gained = look .here;
-      lost = look .there;
+      gained = look .met .here;
+      lost = look .met .there;
     }
 
--- what a recolouring to another sector finds
-pub record Turning (P : Plan) (start near areas col w q : List ℕ) (v d : ℕ) : Type 0 where
-  pub kept : Kept P col w
+-- what regions are recoloured on: a plan within its limits, a colouring, the table of the neighbours and areas, and room in the queue
+pub record Ground (P : Plan) (start near areas col q : List ℕ) : Type 0 where
+  pub limits : Limits P
+  pub coloured : Coloured P col
   pub table : Table (P .R) (P .edges) start near areas
   pub queue : P .R < length q
+
+-- what a recolouring to another sector finds
+pub record Turning (P : Plan) (start near areas col q : List ℕ) (v d : ℕ) : Type 0 where
+  pub ground : Ground P start near areas col q
   pub region : In (P .R) v
   pub sector : In (P .S) d
   pub other : d ≢ at col v
 
-module _ {P : Plan} {start near areas col w q : List ℕ} {v d : ℕ} (t : Turning P start near areas col w q v d) where
+-- the change is that of giving region v to sector d, and the border gains no more than the area of all edges
+pub record Turns (P : Plan) (col : List ℕ) (v d : ℕ) (c : Change) : Type 0 where
+  pub changed : Changed P col (recolour col v d) (at col v) d c
+  pub gained : c .gained ≤ mostEdges * mostArea
+
+-- the colouring and the labels are those after a change, of which it is known how many labels are new
+pub record Followed (P : Plan) (col after : List ℕ) (own d : ℕ) (col′ ls′ : List ℕ) (t : Turned) : Type 0 where
+  pub colouring : col′ ≡ after
+  pub labelled : ls′ ≡ labels (P .edges) after
+  pub changed : Changed P col after own d (t .change)
+  pub relabelled : t .relabelled ≡ relabelled P col after
+
+-- every move finds it
+pub ready-ground : {P : Plan} {W : ℕ} {start near areas q col w gs : List ℕ} {s : Standing} → Setting P W start near areas q → Ready P col w gs s → Ground P start near areas col q
+ready-ground k r = record { limits = k .limits; coloured = r .coloured; table = k .table; queue = k .queue }
+
+-- where a region is given to another sector, that is the change
+pub followed-turns : {P : Plan} {col : List ℕ} {v d : ℕ} {col′ ls′ : List ℕ} {t : Turned} → Followed P col (recolour col v d) (at col v) d col′ ls′ t → t .change .gained ≤ mostEdges * mostArea → Turns P col v d (t .change)
+followed-turns f g = record { changed = f .changed; gained = g }
+
+module _ {P : Plan} {start near areas col q : List ℕ} {v d : ℕ} (t : Turning P start near areas col q v d) where
   -- the plan's limits
   abbrev limits : Limits P
-  limits = t .kept .limits
+  limits = t .ground .limits
 
   -- each region has a sector
   abbrev coloured : Coloured P col
-  coloured = t .kept .coloured
+  coloured = t .ground .coloured
 
   -- so has v
   own : In (P .S) (at col v)
   own = coloured .sector v (t .region)
 
+  module _ {w : List ℕ} (k : Kept P col w) where
+    -- the two sectors have their numbers in the work memory
+    pub turning-placed : Placed w (P .R) (P .S) (at col v) d
+    turning-placed = record { room = k .room; old = own; new = t .sector }
+
+    -- which are those of the colouring
+    pub turning-sides : {before : Sides} → before ≡ sidesIn w (P .R) (P .S) (at col v) d → before ≡ sidesOf P col (at col v) d
+    turning-sides b = b ∙ kept-sides k own (t .sector)
+
+  -- R is read off the array of neighbours
+  size : length start - 1 ≡ P .R
+  size = omega (arith, t .ground .table .size)
+
   -- a look can be taken
-  pub turning-looking : Looking (length start - 1) (P .edges) start near areas (take (P .R) w) col q v d
+  pub turning-looking : Looking (length start - 1) (P .edges) start near areas col q v d
   turning-looking =
-      let e : length start - 1 ≡ P .R = omega (arith, t .table .size) in
-      rw e
+      rw size
       (record {
-        table = t .table;
+        table = t .ground .table;
         few = limits .edges;
         limits = limits .edge;
         size = coloured .size;
         sectors = λ u i. omega (arith, coloured .sector u i, limits .S);
-        labelled = kept-labels (t .kept);
-        room = t .queue;
+        room = t .ground .queue;
         region = t .region;
         sector = omega (arith, t .sector, limits .S);
       })
 
-  -- the two sectors have their numbers in the work memory
-  pub turning-placed : Placed w (P .R) (P .S) (at col v) d
-  turning-placed = record { room = t .kept .room; old = own; new = t .sector }
+  module _ {col′ q′ ls : List ℕ} (same : col′ ≡ col) (long : length q′ ≡ length q) (labelled : ls ≡ labels (P .edges) col) where
+    -- the labels can follow
+    pub turning-labels : Recolourable (length start - 1) (P .edges) start near col′ ls q′ v d
+    turning-labels =
+        rw (size, same)
+        (record {
+          net = table-net (t .ground .table);
+          ready = record { size = coloured .size; room = rw long (t .ground .queue); plain = λ u i. omega (arith, coloured .sector u i, limits .S) };
+          sectors = λ u i. coloured .sector u i .low;
+          labelled = labelled;
+          region = t .region;
+          low = t .sector .low;
+          high = omega (arith, t .sector, limits .S);
+          other = t .other;
+        })
 
-  module _ {before : Sides} (b : before ≡ sidesIn w (P .R) (P .S) (at col v) d) {look : Look} (k : Looked (P .edges) col v d look) where
-    -- which are those of the colouring
-    sides : before ≡ sidesOf P col col v d
-    sides = b ∙ kept-sides (t .kept) own (t .sector)
-
+  module _ {before : Sides} (b : before ≡ sidesOf P col (at col v) d) {look : Look} (k : Looked (P .edges) col v d look) where
     -- the components of the old sector
     go : ncc P (recolour col v d) (at col v) + 1 ≡ ncc P col (at col v) + look .pieces
     go = rw (k .pieces) (ncc-go limits coloured (t .region) (t .sector) (t .other))
 
     -- and of the new
-    come : ncc P (recolour col v d) d + look .touching ≡ ncc P col d + 1
-    come = rw (k .touching) (ncc-come limits coloured (t .region) (t .sector) (t .other))
-
-    -- the faces to the old sector
-    faces : look .here ≤ mostEdges * mostArea
-    unfolding areaTo
-    faces = rw (k .here) (area-bound (edges-small P limits) (leadsTo (λ u. eqb (at (lift col v) u) (at col v)) v))
+    come : ncc P (recolour col v d) d + look .met .touching ≡ ncc P col d + 1
+    come = rw (k .met .touching) (ncc-come limits coloured (t .region) (t .sector) (t .other))
 
     -- the numbers can be changed
     pub turning-movable : Movable before (at (P .workloads) v) look
     turning-movable =
-        rw sides
+        rw b
         (record {
           pieces = omega (arith, go);
           room = omega (arith, go, ncc-bound P limits (recolour col v d) (at col v));
@@ -122,20 +163,18 @@ module _ {P : Plan} {start near areas col w q : List ℕ} {v d : ℕ} (t : Turni
         })
 
     -- and then they are those of the new colouring
-    pub turning-changed : {c : Change} → c ≡ changeOf before (at (P .workloads) v) look → Changed P col v d c
-    turning-changed e =
-        rw (e, sides)
+    pub turning-turns : {c : Change} → c ≡ changeOf before (at (P .workloads) v) look → Turns P col v d c
+    turning-turns e =
+        rw (e, b)
         (record {
-          before = refl;
-          after = rw (old, new, leaves, comes);
-          border = rw (k .here, k .there) (border-recolour limits coloured (t .region) (t .sector));
-          gained = faces;
+          changed = changed-recolour limits coloured (t .region) (t .sector) (t .other) refl (rw (old, new, leaves, comes)) (k .met .here) (k .met .there);
+          gained = rw (k .met .here) (faces-bound limits (lift col v) v (at col v));
         })
       where
         old : ncc P col (at col v) + look .pieces - 1 ≡ ncc P (recolour col v d) (at col v)
         old = omega (arith, go)
 
-        new : ncc P col d + 1 - look .touching ≡ ncc P (recolour col v d) d
+        new : ncc P col d + 1 - look .met .touching ≡ ncc P (recolour col v d) d
         new = omega (arith, come)
 
         leaves : load P col (at col v) - at (P .workloads) v ≡ load P (recolour col v d) (at col v)
@@ -144,11 +183,15 @@ module _ {P : Plan} {start near areas col w q : List ℕ} {v d : ℕ} (t : Turni
         comes : load P col d + at (P .workloads) v ≡ load P (recolour col v d) d
         comes = sym (load-come coloured (t .region) (t .sector) (t .other))
 
-  -- the labels of the new colouring, and the numbers of the two sectors after the change, make its work memory
-  pub turning-memory : {c : Change} {ls : List ℕ} → Changed P col v d c → ls ≡ labels (P .edges) (recolour col v d)
-      → sidesPut (ls ++ drop (P .R) w) (P .R) (P .S) (at col v) d (c .after) ≡ memory P (recolour col v d) ++ drop (memoryLength P) w
-  unfolding memory
-  turning-memory {c} {ls} ch e =
-      let come = coloured-recolour coloured (t .region) (t .sector) in
-      kept-put (t .kept) own (t .sector) ls (c .after) (ap length e ∙ labels-length limits come)
-      ∙ rw (ch .after, e, counts-recolour limits coloured (t .region) (t .sector) (t .other), loads-recolour coloured (t .region) (t .sector) (t .other))
+  -- the colouring and the labels have followed
+  pub turning-followed : {col₁ ls col₂ ls₂ : List ℕ} {c : Change} {n : ℕ} → col₁ ≡ col → ls ≡ labels (P .edges) col → col₂ ≡ recolour col₁ v d → ls₂ ≡ labels (P .edges) (recolour col₁ v d)
+      → n ≡ differing (length start - 1) ls ls₂ → Turns P col v d c → Followed P col (recolour col v d) (at col v) d col₂ ls₂ (record { change = c; relabelled = n })
+  unfolding relabelled
+  turning-followed same labelled new labelled₂ number turns =
+      let after = rw same at labelled₂ in
+      record {
+        colouring = rw same at new;
+        labelled = after;
+        changed = turns .changed;
+        relabelled = rw (← size, ← labelled, ← after) number;
+      }

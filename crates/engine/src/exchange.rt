@@ -1,17 +1,94 @@
 // An exchange, probed or made: two recolourings in turn, the first region to the sector of the second, then the second to the old sector of the first.
 ghost use mathlib.Core.Path.{_≡_};
 ghost use lib.ListN.{length};
+ghost use Rattle.lists.specs.Sums.{at};
 ghost use Rattle.meaning.specs.Plan.{Plan, planOf};
+ghost use Rattle.meaning.specs.Joined.{labels as labelsOf};
 ghost use Rattle.meaning.specs.Kinds.{total};
 ghost use Rattle.meaning.specs.Moves.{swap};
-ghost use Rattle.engine.specs.Remade.{Left, Remade};
+ghost use Rattle.change.specs.Shift.{inTurn};
+ghost use Rattle.change.specs.Small.{Addable};
+ghost use Rattle.change.specs.Changed.{sidesOf, Changed};
+ghost use Rattle.engine.specs.Memory.{Kept};
+ghost use Rattle.engine.specs.Turning.{Followed};
+ghost use Rattle.engine.specs.Remade.{Remade};
+ghost use Rattle.engine.specs.Swapping.{Swapping};
 ghost use Rattle.engine.specs.Exchanging.{Exchanging};
 use crate::Made;
 use crate::Standing;
 use crate::memory::copy;
 use crate::memory::differing;
-use crate::recolour;
+use crate::memory::sides_in;
+use crate::settle::settle;
+use crate::turn::Turned;
+use crate::turn::change_anew;
+use crate::turn::change_at;
+use crate::turn::turn;
+use change::Change;
+use change::Sides;
+use change::figures_after;
+use change::in_turn;
+use change::total_after;
+use change::turned_round;
 use terms::limits::MOST_REGIONS;
+
+// What giving two regions of different sectors each other's sector would change.
+fn change_both(
+    sectors: u64,
+    workloads: &[u64],
+    edges: &[u64],
+    constraints: &[u64],
+    start: &[u64],
+    near: &[u64],
+    areas: &[u64],
+    colouring: &mut [u64],
+    work: &[u64],
+    queue: &mut [u64],
+    first: u64,
+    second: u64,
+) -> Change
+    ghost { Plan }
+    requires { λ P. ⌜ planOf (length (now workloads)) sectors (now workloads) (now edges) (now constraints) ≡ P ⌝ }
+    requires { λ P. ⌜ Swapping P (now start) (now near) (now areas) (now colouring) (now queue) first second ⌝ }
+    requires { λ P. ⌜ Kept P (now colouring) (now work) ⌝ }
+    ensures { λ P r. ⌜ Changed P (now (colouring .entry)) (swap (now (colouring .entry)) first second) (at (now (colouring .entry)) first) (at (now (colouring .entry)) second) r ⌝ }
+    ensures { λ P r. ⌜ now (colouring .exit) ≡ now (colouring .entry) ⌝ }
+{
+    let z = first as usize - 1;
+    let own = colouring[z];
+    let other = colouring[second as usize - 1];
+    let once = change_at(
+        sectors,
+        workloads,
+        edges,
+        constraints,
+        start,
+        near,
+        areas,
+        colouring,
+        work,
+        queue,
+        first,
+        other,
+    );
+    colouring[z] = other;
+    let twice = change_anew(
+        sectors,
+        workloads,
+        edges,
+        constraints,
+        start,
+        near,
+        areas,
+        colouring,
+        queue,
+        turned_round(once.after),
+        second,
+        own,
+    );
+    colouring[z] = own;
+    in_turn(once, twice)
+}
 
 // The total if the two regions were given each other's sectors; all is left as it was.
 pub fn probe(
@@ -24,8 +101,8 @@ pub fn probe(
     near: &[u64],
     areas: &[u64],
     colouring: &mut [u64],
-    work: &mut [u64],
-    gauges: &mut [u64],
+    work: &[u64],
+    gauges: &[u64],
     queue: &mut [u64],
     standing: Standing,
     first: u64,
@@ -35,16 +112,15 @@ pub fn probe(
     requires { λ P. ⌜ planOf (length (now workloads)) sectors (now workloads) (now edges) (now constraints) ≡ P ⌝ }
     requires { λ P. ⌜ Exchanging P whole (now start) (now near) (now areas) (now colouring) (now work) (now gauges) (now queue) standing first second ⌝ }
     ensures { λ P r. ⌜ r ≡ total P (swap (now (colouring .entry)) first second) ⌝ }
-    ensures { λ P r. ⌜ Left P (now (work .entry)) (now (colouring .entry)) (now (colouring .exit)) (now (work .exit)) (now (gauges .exit)) ⌝ }
+    ensures { λ P r. ⌜ now (colouring .exit) ≡ now (colouring .entry) ⌝ }
 {
     let own = colouring[first as usize - 1];
     let other = colouring[second as usize - 1];
     if own == other {
         return standing.total;
     }
-    let made = recolour::make(
+    let change = change_both(
         sectors,
-        whole,
         workloads,
         edges,
         constraints,
@@ -53,60 +129,84 @@ pub fn probe(
         areas,
         colouring,
         work,
-        gauges,
         queue,
-        standing,
         first,
-        other,
-    );
-    let once = made.standing;
-    let total = recolour::probe(
-        sectors,
-        whole,
-        workloads,
-        edges,
-        constraints,
-        start,
-        near,
-        areas,
-        colouring,
-        work,
-        gauges,
-        queue,
-        once, // what stands after the first
         second,
-        own,
     );
-    recolour::make(
-        sectors,
-        whole,
-        workloads,
-        edges,
-        constraints,
-        start,
-        near,
-        areas,
-        colouring,
-        work,
-        gauges,
-        queue,
-        once,
-        first,
-        own, // the sector that it had
-    );
-    total
+    let figures = figures_after(sectors, whole, standing.figures, change);
+    total_after(constraints, figures, gauges, change)
 }
 
-// What a made recolouring answers, with its new labels counted from an earlier colouring.
-fn recounted(made: Made, relabelled: u64) -> Made
-    ensures { λ r. ⌜ r .standing ≡ made .standing ⌝ }
+// What two recolourings in turn change together, with the new labels counted from before both.
+fn together(once: Turned, twice: Turned, relabelled: u64) -> Turned
+    requires { ⌜ Addable (once .change) (twice .change) ⌝ }
+    ensures { λ r. ⌜ r .change ≡ inTurn (once .change) (twice .change) ⌝ }
     ensures { λ r. ⌜ r .relabelled ≡ relabelled ⌝ }
 {
-    let standing = made.standing;
-    Made {
-        standing,
-        relabelled,
-    }
+    let change = in_turn(once.change, twice.change);
+    Turned { change, relabelled }
+}
+
+// Gives two regions of different sectors each other's sector in the colouring, brings the labels up to date, and answers what that changes, by what the two sectors have before it.
+fn turn_both(
+    sectors: u64,
+    workloads: &[u64],
+    edges: &[u64],
+    constraints: &[u64],
+    start: &[u64],
+    near: &[u64],
+    areas: &[u64],
+    colouring: &mut [u64],
+    labels: &mut [u64],
+    queue: &mut [u64],
+    before: Sides,
+    first: u64,
+    second: u64,
+) -> Turned
+    ghost { Plan }
+    requires { λ P. ⌜ planOf (length (now workloads)) sectors (now workloads) (now edges) (now constraints) ≡ P ⌝ }
+    requires { λ P. ⌜ Swapping P (now start) (now near) (now areas) (now colouring) (now queue) first second ⌝ }
+    requires { λ P. ⌜ before ≡ sidesOf P (now colouring) (at (now colouring) first) (at (now colouring) second) ⌝ }
+    requires { λ P. ⌜ now labels ≡ labelsOf (P .edges) (now colouring) ⌝ }
+    ensures { λ P r. ⌜ Followed P (now (colouring .entry)) (swap (now (colouring .entry)) first second) (at (now (colouring .entry)) first) (at (now (colouring .entry)) second) (now (colouring .exit)) (now (labels .exit)) r ⌝ }
+{
+    let regions = workloads.len();
+    let from = colouring[first as usize - 1];
+    let to = colouring[second as usize - 1];
+    let mut old = [0u64; MOST_REGIONS as usize];
+    copy(labels, &mut old);
+    let once = turn(
+        sectors,
+        workloads,
+        edges,
+        constraints,
+        start,
+        near,
+        areas,
+        colouring,
+        labels,
+        queue,
+        before,
+        first,
+        to,
+    );
+    let between = turned_round(once.change.after);
+    let twice = turn(
+        sectors,
+        workloads,
+        edges,
+        constraints,
+        start,
+        near,
+        areas,
+        colouring,
+        labels,
+        queue,
+        between,
+        second,
+        from,
+    );
+    together(once, twice, differing(&old[..regions], labels))
 }
 
 // Gives the two regions each other's sectors, and answers what stands then and how many labels are new after both recolourings.
@@ -141,11 +241,9 @@ pub fn make(
         };
     }
     let regions = workloads.len();
-    let mut labels = [0u64; MOST_REGIONS as usize];
-    copy(&work[..regions], &mut labels);
-    let made = recolour::make(
+    let before = sides_in(work, regions, sectors, from, to);
+    let turned = turn_both(
         sectors,
-        whole,
         workloads,
         edges,
         constraints,
@@ -153,30 +251,28 @@ pub fn make(
         near,
         areas,
         colouring,
-        work,
-        gauges,
+        &mut work[..regions],
         queue,
-        standing,
+        before,
         first,
-        to,
+        second,
     );
-    let between = made.standing;
-    let both = recolour::make(
+    let settled = settle(
         sectors,
         whole,
         workloads,
         edges,
         constraints,
-        start,
-        near,
-        areas,
         colouring,
         work,
         gauges,
-        queue,
-        between,
-        second,
+        standing,
         from,
+        to,
+        turned.change,
     );
-    recounted(both, differing(&labels[..regions], &work[..regions]))
+    Made {
+        standing: settled,
+        relabelled: turned.relabelled,
+    }
 }

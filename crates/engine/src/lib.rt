@@ -9,6 +9,8 @@ use judge::Figures;
 use terms::Move;
 
 pub mod memory; // memory.rt: the front of the work memory
+pub mod turn; // turn.rt: what giving a region to another sector changes
+pub mod settle; // settle.rt: what stands after a change
 pub mod recolour; // recolour.rt: a recolouring, probed or made
 pub mod exchange; // exchange.rt: an exchange, probed or made
 pub mod ask; // ask.rt: a region's violation

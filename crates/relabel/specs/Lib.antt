@@ -1,4 +1,6 @@
 pub mod ListSums
+pub mod Alone
+pub mod Ranging
 pub mod Growing
 pub mod Minimum
 pub mod Differing
@@ -6,5 +8,6 @@ pub mod Writing
 pub mod Seeding
 pub mod Sowing
 pub mod Repairing
+pub mod Lifting
 pub mod Recolouring
 pub mod Labelling

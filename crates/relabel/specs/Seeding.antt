@@ -6,21 +6,16 @@ use native.Mathlib.Decide.{ℕ-discrete, decLt}
 use mathlib.Core.Path.{_≡_, refl, sym, _∙_}
 use mathlib.Core.List.{List}
 use mathlib.Core.Logic.{_≢_, ⊎-elim}
-use mathlib.Core.Bool.{Bool, _&&_}
-use mathlib.Mathlib.Data.Bool.Basic.{eq-false-of-not-eq-true}
-use lib.Dec.{eqb}
 use lib.ListN.{length, getD, set}
 use lib.Seq.{getD-set-same, getD-set-other}
-use Rattle.lists.specs.Sums.{In, at, upTo, count}
-use Rattle.lists.specs.Tests.{eqb-both, eqb-alike}
+use Rattle.lists.specs.Sums.{In, at}
 use Rattle.lists.specs.Places.{at-set}
 use Rattle.meaning.specs.Plan.{Edge}
-use Rattle.meaning.specs.Joined.{Joined, labels, leads}
+use Rattle.meaning.specs.Joined.{Joined, labels}
 use Rattle.meaning.specs.Paths.{Ends, joined-sym, joined-in}
 use Rattle.meaning.specs.Labels.{Labelled, labels-right, label-joined}
 use Rattle.meaning.specs.Moves.{recolour, differing}
 use Rattle.neighbours.specs.Net.{Net}
-use Rattle.lists.specs.Counts.{count-more}
 use Rattle.search.specs.Marks.{mark, unmask, length-unmask, open-sector, unmask-put, mark-keep}
 use Rattle.search.specs.Flood.{Reached, reached-cases, Queued, Flood, flood-room, flood-push}
 use Rattle.search.specs.Scan.{Span}
@@ -44,10 +39,6 @@ whole-joined ends a same j r = closed-joined (a .closed) ends (a .flood) same (o
 abbrev pub labelsUnder : List Edge → ℕ → List ℕ → List ℕ
 labelsUnder edges d cur = labels edges (unmask d cur)
 
--- the test whether u is marked and is the label of its component
-unfoldable pub heads : List ℕ → List ℕ → ℕ → Bool
-heads cur ls u = eqb (at cur u) mark && leads ls u
-
 -- what the labelling of a component starts from: s is a region, and each region has a label
 pub record Seedable (R : ℕ) (edges : List Edge) (start nb : List ℕ) (d s : ℕ) (cur ls queue : List ℕ) (e : ℕ) : Type 0 where
   pub net : Net R edges start nb
@@ -56,16 +47,13 @@ pub record Seedable (R : ℕ) (edges : List Edge) (start nb : List ℕ) (d s : �
   pub region : In R s
 
 -- what it comes to: the component of s is marked, if s showed d; what is newly marked has its label, and every other region the one that it had
-pub record Seeded (R : ℕ) (edges : List Edge) (d s : ℕ) (cur ls queue cur′ ls′ queue′ : List ℕ) (e′ n f : ℕ) : Type 0 where
+pub record Seeded (R : ℕ) (edges : List Edge) (d s : ℕ) (cur ls queue cur′ ls′ queue′ : List ℕ) (e′ n : ℕ) : Type 0 where
   pub whole : Whole R edges d cur′ queue′ e′
   pub size : length ls′ ≡ R
   -- nothing but the marks is new in the colouring
   pub same : unmask d cur′ ≡ unmask d cur
   pub still : (w : ℕ) → at cur w ≡ mark → at cur′ w ≡ mark
   pub shut : at cur′ s ≢ d
-  -- what is newly marked is joined to s, and f components are
-  pub joined : (w : ℕ) → Reached R cur′ w → at cur w ≢ mark → Joined edges (unmask d cur) s w
-  pub found : count (upTo R) (heads cur′ (labelsUnder edges d cur)) ≡ count (upTo R) (heads cur (labelsUnder edges d cur)) + f
   -- the labels, and how many are new
   pub right : (w : ℕ) → Reached R cur′ w → at cur w ≢ mark → at ls′ w ≡ at (labelsUnder edges d cur) w
   pub kept : (w : ℕ) → In R w → (at cur′ w ≡ mark → at cur w ≡ mark) → at ls′ w ≡ at ls w
@@ -73,7 +61,7 @@ pub record Seeded (R : ℕ) (edges : List Edge) (d s : ℕ) (cur ls queue cur′
 
 module _ {R : ℕ} {edges : List Edge} {start nb : List ℕ} {d s : ℕ} {cur ls queue : List ℕ} {e : ℕ} (a : Seedable R edges start nb d s cur ls queue e) where
   -- where s does not show d nothing is new
-  pub seeded-none : at cur s ≢ d → Seeded R edges d s cur ls queue cur ls queue e 0 0
+  pub seeded-none : at cur s ≢ d → Seeded R edges d s cur ls queue cur ls queue e 0
   seeded-none n =
       record {
         whole = a .whole;
@@ -81,8 +69,6 @@ module _ {R : ℕ} {edges : List Edge} {start nb : List ℕ} {d s : ℕ} {cur ls
         same = refl;
         still = λ w m. m;
         shut = n;
-        joined = λ w r k. absurd (k (r .marked));
-        found = omega arith;
         right = λ w r k. absurd (k (r .marked));
         kept = λ w i k. refl;
         number = sym (differing-none R ls);
@@ -194,22 +180,6 @@ module _ {R : ℕ} {edges : List Edge} {start nb : List ℕ} {d s : ℕ} {cur ls
       fresh-own : at cur (at (labelsUnder edges d cur) s) ≢ mark
       fresh-own m = fresh (joined-before (joined-sym own) (record { inside = own-in; marked = m }) .marked)
 
-      -- it alone is newly marked and the label of its component
-      found : count (upTo R) (heads cur′ (labelsUnder edges d cur)) ≡ count (upTo R) (heads cur (labelsUnder edges d cur)) + 1
-      unfolding heads
-      found =
-          count-more R (at (labelsUnder edges d cur) s) (heads cur′ (labelsUnder edges d cur)) (heads cur (labelsUnder edges d cur)) own-in
-          (eqb-both (at cur′ _) mark (at (labelsUnder edges d cur) _) _ .1 (joined-after own here .marked, sym (alike own-in own)))
-          (eq-false-of-not-eq-true (λ t. fresh-own (eqb-both (at cur _) mark (at (labelsUnder edges d cur) _) _ .0 t .0)))
-          (λ u i n. eqb-alike (λ q. (before i n q, q .1), λ q. (g .grown .still u (mark-keep cur s u (q .0)), q .1)))
-        where
-          before : {u : ℕ} → In R u → u ≢ at (labelsUnder edges d cur) s → (at cur′ u ≡ mark) × (at (labelsUnder edges d cur) u ≡ u) → at cur u ≡ mark
-          before {u} i n q = go (ℕ-discrete (at cur u) mark)
-            where
-              go : Dec (at cur u ≡ mark) → at cur u ≡ mark
-              go (yes m) = m
-              go (no m) = absurd (n (sym (q .1) ∙ sym (alike i (new-joined (record { inside = i; marked = q .0 }) m))))
-
       -- the smallest of the new part of the queue is the label of s
       label-is : {m : ℕ} → Minimum queue′ e e′ m → m ≡ at (labelsUnder edges d cur) s
       label-is {m} l =
@@ -222,7 +192,7 @@ module _ {R : ℕ} {edges : List Edge} {start nb : List ℕ} {d s : ℕ} {cur ls
           )
 
       -- the component of s is marked and labelled
-      pub seeded-some : {m : ℕ} {ls′ : List ℕ} {n : ℕ} → Minimum queue′ e e′ m → Written (length ls) queue′ e e′ m ls ls′ n → Seeded R edges d s cur ls queue cur′ ls′ queue′ e′ n 1
+      pub seeded-some : {m : ℕ} {ls′ : List ℕ} {n : ℕ} → Minimum queue′ e e′ m → Written (length ls) queue′ e e′ m ls ls′ n → Seeded R edges d s cur ls queue cur′ ls′ queue′ e′ n
       seeded-some {m} {ls′} {n} l x =
           let w : Written R queue′ e e′ m ls ls′ n = rw (a .size) at x in
           record {
@@ -231,8 +201,6 @@ module _ {R : ℕ} {edges : List Edge} {start nb : List ℕ} {d s : ℕ} {cur ls
             same = same;
             still = λ u m. g .grown .still u (mark-keep cur s u m);
             shut = λ q. omega (arith, here .marked, a .whole .flood .low);
-            joined = λ u r n. new-joined r n;
-            found = found;
             right = λ u r n. w .given u (new-queued r n) ∙ label-is l ∙ alike (r .inside) (new-joined r n);
             kept = λ u i k. w .kept u i (λ p. queued-new p (k (queued-reached p .marked)));
             number = w .number;

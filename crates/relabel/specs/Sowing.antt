@@ -58,7 +58,7 @@ module _ {R : ℕ} {edges : List Edge} {col : List ℕ} {d : ℕ} {ls cur ls′ 
   pub sowing-next : {start nb : List ℕ} {s : ℕ} → Net R edges start nb → In R s → Seedable R edges start nb d s cur ls′ queue e
   sowing-next net i = record { net = net; whole = a .whole; size = a .size; region = i }
 
-  module _ {s : ℕ} {cur″ ls″ queue″ : List ℕ} {e″ k f : ℕ} (x : Seeded R edges d s cur ls′ queue cur″ ls″ queue″ e″ k f) where
+  module _ {s : ℕ} {cur″ ls″ queue″ : List ℕ} {e″ k : ℕ} (x : Seeded R edges d s cur ls′ queue cur″ ls″ queue″ e″ k) where
     -- its component is labelled
     pub sowing-turn : Sowing R edges col d ls cur″ ls″ queue″ e″ (n + k)
     sowing-turn =
@@ -109,7 +109,7 @@ module _ {R : ℕ} {edges : List Edge} {start nb col queue : List ℕ} {v : ℕ}
   pub owning-next : Seedable R edges start nb (at col v) v col ls queue 0
   owning-next = sowing-next (sowing-start c size) (c .net) (c .region)
 
-  module _ {cur′ ls′ queue′ : List ℕ} {e′ n f : ℕ} (x : Seeded R edges (at col v) v col ls queue cur′ ls′ queue′ e′ n f) where
+  module _ {cur′ ls′ queue′ : List ℕ} {e′ n : ℕ} (x : Seeded R edges (at col v) v col ls queue cur′ ls′ queue′ e′ n) where
     -- its component is labelled
     pub owning-turn : Sowing R edges col (at col v) ls cur′ ls′ queue′ e′ n
     owning-turn = rw (← zero-add n) (sowing-turn (sowing-start c size) x)

@@ -1,134 +1,116 @@
-// The labels of a colouring, and the labels after a made recolouring at the cost of the two components that it concerns.
+// The labels of a colouring, and the labels after a made recolouring at the cost of what it changes.
 ghost use mathlib.Core.Path.{_≡_};
-ghost use Prim.Native.Nat.{_-_, _≤_, _<_, min};
-ghost use mathlib.Core.Bool.{not};
+ghost use Prim.Native.Nat.{_-_, max};
 ghost use lib.ListN.{length, replicate};
-ghost use lib.Dec.{eqb};
-ghost use Rattle.lists.specs.Sums.{at, bit};
+ghost use Rattle.lists.specs.Sums.{at};
 ghost use Rattle.meaning.specs.Plan.{edgesOf};
-ghost use Rattle.meaning.specs.Joined.{Neighbours, labels as labelsOf};
+ghost use Rattle.meaning.specs.Joined.{labels as labelsOf};
 ghost use Rattle.meaning.specs.Moves.{recolour as recoloured, differing};
-ghost use Rattle.meaning.specs.Faces.{beside, pieces as piecesOf};
-ghost use Rattle.search.specs.Scan.{Span};
-ghost use Rattle.search.specs.Counting.{Counting};
-ghost use Rattle.relabel.specs.Growing.{Growable, Growing};
-ghost use Rattle.relabel.specs.Minimum.{Minimum};
-ghost use Rattle.relabel.specs.Writing.{Written};
-ghost use Rattle.relabel.specs.Seeding.{Seedable, Seeded};
-ghost use Rattle.relabel.specs.Sowing.{Renewed};
+ghost use Rattle.meaning.specs.Faces.{pieces as piecesOf};
+ghost use Rattle.relabel.specs.Ranging.{Rangeable, Ranged};
+ghost use Rattle.relabel.specs.Lifting.{Leaving, Coming, labelsBut};
 ghost use Rattle.relabel.specs.Recolouring.{Recolourable};
 ghost use Rattle.relabel.specs.Labelling.{Labellable};
-use search::MARK;
 
-// Searches from the regions of the queue from place `first` on until none of them has a neighbour that shows the sector, and returns the queue's new end.
-fn grow(
-    edges: &[u64],
-    start: &[u64],
-    near: &[u64],
-    colouring: &mut [u64],
-    queue: &mut [u64],
-    sector: u64,
-    first: usize,
-    end: usize,
-) -> usize
-    requires { ⌜ Growable (length (now start) - 1) (edgesOf (now edges)) (now start) (now near) sector (now colouring) (now queue) end first ⌝ }
-    ensures { λ r. ⌜ Growing (length (now (start .entry)) - 1) (edgesOf (now (edges .entry))) (now (start .entry)) (now (near .entry)) sector (now (colouring .entry)) (now (queue .entry)) end (now (colouring .exit)) (now (queue .exit)) r r ⌝ }
-{
-    let mut h = first;
-    let mut e = end;
-    while h < e {
-        let reached = queue[h] as usize;
-        h += 1;
-        e = search::expand(edges, start, near, colouring, queue, sector, reached, e);
-    }
-    e
-}
+pub mod component; // component.rt: components are searched and labelled
 
-// The smaller of two numbers.
-fn lesser(a: u64, b: u64) -> u64
-    ensures { λ r. ⌜ r ≡ min a b ⌝ }
-{
-    if b < a { b } else { a }
-}
-
-// The smallest region of a part of the queue.
-fn smallest(queue: &[u64], first: usize, end: usize) -> u64
-    requires { ⌜ (first < end) × (end ≤ length (now queue)) ⌝ }
-    ensures { λ r. ⌜ Minimum (now (queue .entry)) first end r ⌝ }
-{
-    let mut m = queue[first];
-    let mut k = first + 1;
-    while k < end {
-        m = lesser(m, queue[k]);
-        k += 1;
-    }
-    m
-}
-
-// 1 where two labels differ, and otherwise 0.
-fn differ(a: u64, b: u64) -> u64
-    ensures { λ r. ⌜ r ≡ bit (not (eqb a b)) ⌝ }
-    ensures { λ r. ⌜ r ≤ 1 ⌝ }
-{
-    if a == b { 0 } else { 1 }
-}
-
-// Gives the regions of a part of the queue one label, and returns how many had another.
-fn write(labels: &mut [u64], queue: &[u64], first: usize, end: usize, label: u64) -> u64
-    requires { ⌜ Span (length (now labels)) (now queue) first end ⌝ }
-    ensures { λ r. ⌜ Written (length (now (labels .entry))) (now (queue .entry)) first end label (now (labels .entry)) (now (labels .exit)) r ⌝ }
-{
-    let mut n = 0;
-    let mut k = first;
-    while k < end {
-        let z = queue[k] as usize - 1;
-        n += differ(labels[z], label);
-        labels[z] = label;
-        k += 1;
-    }
-    n
-}
-
-// The queue's new end, how many labels are new, and how many components are newly marked.
-struct Reach {
-    end: usize,
-    relabelled: u64,
-    found: u64,
-}
-
-// Marks and labels the component of a region, where the region shows the sector.
-fn label_from(
+// Brings the labels up to date, but for the region's own, once a region is lifted out of a sector, and returns how many are new. Where at most
+// one piece is left and the region was not the smallest of its component none is; otherwise the pieces are gone through.
+fn leave(
     edges: &[u64],
     start: &[u64],
     near: &[u64],
     colouring: &mut [u64],
     labels: &mut [u64],
     queue: &mut [u64],
+    region: usize,
     sector: u64,
-    region: u64,
-    end: usize,
-) -> Reach
-    requires { ⌜ Seedable (length (now start) - 1) (edgesOf (now edges)) (now start) (now near) sector region (now colouring) (now labels) (now queue) end ⌝ }
-    ensures { λ r. ⌜ Seeded (length (now (start .entry)) - 1) (edgesOf (now (edges .entry))) sector region (now (colouring .entry)) (now (labels .entry)) (now (queue .entry)) (now (colouring .exit)) (now (labels .exit)) (now (queue .exit)) (r .end) (r .relabelled) (r .found) ⌝ }
+    pieces: u64,
+) -> u64
+    requires { ⌜ Leaving (length (now start) - 1) (edgesOf (now edges)) (now start) (now near) (now colouring) (now labels) (now queue) region sector pieces ⌝ }
+    ensures { λ _. ⌜ now (colouring .exit) ≡ now (colouring .entry) ⌝ }
+    ensures { λ _. ⌜ now (labels .exit) ≡ labelsBut (edgesOf (now (edges .entry))) (now (colouring .entry)) region (at (now (labels .entry)) region) ⌝ }
+    ensures { λ r. ⌜ r ≡ differing (length (now (start .entry)) - 1) (now (labels .entry)) (now (labels .exit)) ⌝ }
 {
-    let z = region as usize - 1;
-    if colouring[z] == sector {
-        colouring[z] = MARK;
-        queue[end] = region;
-        let e = grow(edges, start, near, colouring, queue, sector, end, end + 1);
-        let label = smallest(queue, end, e);
-        let n = write(labels, queue, end, e, label);
-        return Reach {
-            end: e,
-            relabelled: n,
-            found: 1,
-        };
+    if pieces <= 1 {
+        if labels[region - 1] != region as u64 {
+            return 0;
+        }
     }
-    Reach {
-        end,
-        relabelled: 0,
-        found: 0,
+    component::relabel_pieces(edges, start, near, colouring, labels, queue, region, sector)
+}
+
+// The larger of two numbers.
+fn greater(a: u64, b: u64) -> u64
+    ensures { λ r. ⌜ r ≡ max a b ⌝ }
+{
+    if a < b { b } else { a }
+}
+
+// Two numbers that labels lie between.
+struct Range {
+    low: u64,
+    high: u64,
+}
+
+// The smallest of a region and the labels of the components of a sector that share a face with it, and the largest of these labels, or 0 where there is none.
+fn labels_beside(
+    edges: &[u64],
+    start: &[u64],
+    near: &[u64],
+    colouring: &[u64],
+    labels: &[u64],
+    region: usize,
+    sector: u64,
+) -> Range
+    requires { ⌜ Rangeable (length (now start) - 1) (edgesOf (now edges)) (now start) (now near) (now colouring) (now labels) region ⌝ }
+    ensures { λ r. ⌜ Ranged (edgesOf (now (edges .entry))) (now (colouring .entry)) (now (labels .entry)) region sector (r .low) (r .high) ⌝ }
+{
+    let last = start[region] as usize;
+    let mut j = start[region - 1] as usize;
+    let mut low = region as u64;
+    let mut high = 0;
+    while j < last {
+        let z = near[j] as usize - 1;
+        if colouring[z] == sector {
+            let label = labels[z];
+            low = component::lesser(low, label);
+            high = greater(high, label);
+            j += 1;
+        } else {
+            j += 1;
+        }
     }
+    Range { low, high }
+}
+
+// Puts a region that is lifted out into a sector, brings the labels up to date, and returns how many are new. Where at most one component shares
+// a face with the region, and its label is below the region, only the region's own is new; otherwise its component is gone through.
+fn come(
+    edges: &[u64],
+    start: &[u64],
+    near: &[u64],
+    colouring: &mut [u64],
+    labels: &mut [u64],
+    queue: &mut [u64],
+    region: usize,
+    sector: u64,
+) -> u64
+    requires { ⌜ Coming (length (now start) - 1) (edgesOf (now edges)) (now start) (now near) (now colouring) (now labels) (now queue) region sector ⌝ }
+    ensures { λ _. ⌜ now (colouring .exit) ≡ recoloured (now (colouring .entry)) region sector ⌝ }
+    ensures { λ _. ⌜ now (labels .exit) ≡ labelsOf (edgesOf (now (edges .entry))) (recoloured (now (colouring .entry)) region sector) ⌝ }
+    ensures { λ r. ⌜ r ≡ differing (length (now (start .entry)) - 1) (now (labels .entry)) (now (labels .exit)) ⌝ }
+{
+    let z = region - 1;
+    let beside = labels_beside(edges, start, near, colouring, labels, region, sector);
+    let label = beside.low;
+    colouring[z] = sector;
+    if beside.high <= label {
+        let n = component::differ(labels[z], label);
+        labels[z] = label;
+        return n;
+    }
+    component::relabel_own(edges, start, near, colouring, labels, queue, region)
 }
 
 // How many labels are new, and how many pieces a region's component falls into without it.
@@ -137,83 +119,7 @@ pub struct Made {
     pub pieces: u64,
 }
 
-// Labels anew the components of a sector that share a face with a region, and counts them.
-fn relabel_pieces(
-    edges: &[u64],
-    start: &[u64],
-    near: &[u64],
-    colouring: &mut [u64],
-    labels: &mut [u64],
-    queue: &mut [u64],
-    region: usize,
-    sector: u64,
-) -> Made
-    requires { ⌜ Counting (length (now start) - 1) (edgesOf (now edges)) (now start) (now near) (now colouring) (now queue) region sector ⌝ }
-    requires { ⌜ length (now labels) ≡ length (now start) - 1 ⌝ }
-    ensures { λ _. ⌜ now (colouring .exit) ≡ now (colouring .entry) ⌝ }
-    ensures { λ r. ⌜ Renewed (length (now (start .entry)) - 1) (edgesOf (now (edges .entry))) (now (colouring .entry)) sector (Neighbours (edgesOf (now (edges .entry))) region) (now (labels .entry)) (now (labels .exit)) (r .relabelled) ⌝ }
-    ensures { λ r. ⌜ r .pieces ≡ beside (edgesOf (now (edges .entry))) (now (colouring .entry)) region sector ⌝ }
-{
-    let last = start[region] as usize;
-    let mut j = start[region - 1] as usize;
-    let mut e = 0;
-    let mut relabelled = 0;
-    let mut pieces = 0;
-    while j < last {
-        let reach = label_from(
-            edges,
-            start,
-            near,
-            colouring,
-            labels,
-            queue,
-            sector,
-            near[j],
-            e,
-        );
-        e = reach.end;
-        relabelled += reach.relabelled;
-        pieces += reach.found;
-        j += 1;
-    }
-    search::restore(colouring, queue, sector, e);
-    Made { relabelled, pieces }
-}
-
-// Labels anew the component of a region, and returns how many labels are new.
-fn relabel_own(
-    edges: &[u64],
-    start: &[u64],
-    near: &[u64],
-    colouring: &mut [u64],
-    labels: &mut [u64],
-    queue: &mut [u64],
-    region: usize,
-) -> u64
-    requires { ⌜ Counting (length (now start) - 1) (edgesOf (now edges)) (now start) (now near) (now colouring) (now queue) region (at (now colouring) region) ⌝ }
-    requires { ⌜ length (now labels) ≡ length (now start) - 1 ⌝ }
-    ensures { λ _. ⌜ now (colouring .exit) ≡ now (colouring .entry) ⌝ }
-    ensures { λ r. ⌜ Renewed (length (now (start .entry)) - 1) (edgesOf (now (edges .entry))) (now (colouring .entry)) (at (now (colouring .entry)) region) (λ x. x ≡ region) (now (labels .entry)) (now (labels .exit)) r ⌝ }
-{
-    let sector = colouring[region - 1];
-    let reach = label_from(
-        edges,
-        start,
-        near,
-        colouring,
-        labels,
-        queue,
-        sector,
-        region as u64,
-        0,
-    );
-    let e = reach.end;
-    search::restore(colouring, queue, sector, e);
-    reach.relabelled
-}
-
-// Gives a region to another sector and brings the labels up to date: only the pieces that the region leaves and the component that
-// it comes to are gone through. Returns how many labels are new, and the number of pieces.
+// Gives a region to another sector and brings the labels up to date. Returns how many labels are new, and the number of pieces.
 pub fn recolour(
     edges: &[u64],
     start: &[u64],
@@ -232,15 +138,21 @@ pub fn recolour(
 {
     let z = region - 1;
     let old = colouring[z];
+    let pieces = search::pieces_at(edges, start, near, colouring, queue, region);
     colouring[z] = 0;
-    let left = relabel_pieces(edges, start, near, colouring, labels, queue, region, old);
-    colouring[z] = sector;
-    let come = relabel_own(edges, start, near, colouring, labels, queue, region);
-    let relabelled = left.relabelled + come;
-    Made {
-        relabelled,
-        pieces: left.pieces,
-    }
+    let left = leave(
+        edges,
+        start,
+        near,
+        colouring,
+        labels,
+        queue,
+        region,
+        old,
+        pieces,
+    );
+    let relabelled = left + come(edges, start, near, colouring, labels, queue, region, sector);
+    Made { relabelled, pieces }
 }
 
 // Puts 0 everywhere.
@@ -271,7 +183,7 @@ pub fn label_all(
     let mut v = 1;
     while v < start.len() {
         if labels[v - 1] == 0 {
-            relabel_own(edges, start, near, colouring, labels, queue, v);
+            component::relabel_own(edges, start, near, colouring, labels, queue, v);
             v += 1;
         } else {
             v += 1;

@@ -1,20 +1,21 @@
 -- The area of a region's edges to the regions that pass a test is a sum along its row.
 -- Assumes nothing.
-use Prim.Native.Nat.{ℕ, _+_, _≤_, _<_}
+use Prim.Native.Nat.{ℕ, _+_, _-_, _≤_, _<_}
 use native.Mathlib.Numerals.{add-one}
 use native.Mathlib.Omega.{arith}
-use mathlib.Core.Path.{_≡_, refl}
+use mathlib.Core.Path.{_≡_, refl, sym, _∙_}
 use mathlib.Core.List.{List, [], _∷_}
-use mathlib.Core.Bool.{Bool, true, false, cond}
+use mathlib.Core.Bool.{Bool, true, false, cond, _&&_}
 use borrow.Author.Tests.{eqb-true}
 use lib.Dec.{eqb}
 use lib.ListN.{length, getD, drop, drop-of-length-le}
-use lib.Seq.{drop-cons}
-use Rattle.lists.specs.Sums.{Every}
-use Rattle.lists.specs.SumLaws.{few-bound, every-turn}
-use Rattle.lists.specs.Tests.{cond-le, cond-either}
+use lib.Seq.{drop-cons, getD-set-other}
+use Rattle.lists.specs.Sums.{In, at, Every}
+use Rattle.lists.specs.SumLaws.{sum-ext, few-bound, every-turn}
+use Rattle.lists.specs.Tests.{cond-le, cond-either, eqb-alike}
 use Rattle.meaning.specs.Plan.{Edge, EdgeLimits, mostEdges, mostArea}
 use Rattle.meaning.specs.Kinds.{areaOf, leadsTo}
+use Rattle.meaning.specs.Faces.{lift, areaTo}
 use Rattle.neighbours.specs.Table.{when, sides, near, areas}
 
 -- of neighbours and areas, cell by cell, the areas of those that pass the test are added up
@@ -58,3 +59,19 @@ module _ (test : ℕ → Bool) where
   pub area-bound : (R : ℕ) (edges : List Edge) (v : ℕ) → length edges ≤ mostEdges → Every (EdgeLimits R) edges → areaOf edges (leadsTo test v) ≤ 2_048_000_000
   area-bound R edges v few l =
       few-bound mostEdges mostArea edges _ few (every-turn (λ e h. cond-le (leadsTo test v e) (h .area .high) (omega arith)) edges l)
+
+-- no edge leads from v to itself: the area of its edges to a sector is the same with v lifted out
+pub area-lift : {R v : ℕ} (edges : List Edge) → In R v → Every (EdgeLimits R) edges → (col : List ℕ) (c : ℕ) → areaTo edges (lift col v) v c ≡ areaTo edges col v c
+unfolding areaTo leadsTo
+area-lift {R} {v} edges i l col c = sum-ext edges _ _ (every-turn one edges l)
+  where
+    end : (u w : ℕ) → (u ≡ v → at (lift col v) w ≡ at col w) → (eqb u v && eqb (at (lift col v) w) c) ≡ (eqb u v && eqb (at col w) c)
+    end u w f = eqb-alike (λ h. (h .0, sym (f (h .0)) ∙ h .1), λ h. (h .0, f (h .0) ∙ h .1))
+
+    one : (e : Edge) → EdgeLimits R e
+        → cond (leadsTo (λ w. eqb (at (lift col v) w) c) v e) (e .area) 0 ≡ cond (leadsTo (λ w. eqb (at col w) c) v e) (e .area) 0
+    one e h =
+        rw (
+          end (e .a) (e .b) (λ q. getD-set-other col (v - 1) (e .b - 1) 0 0 (λ r. omega (arith, h .rise))),
+          end (e .b) (e .a) (λ q. getD-set-other col (v - 1) (e .a - 1) 0 0 (λ r. omega (arith, h .rise, h .low))),
+        )

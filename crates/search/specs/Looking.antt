@@ -9,37 +9,72 @@ use lib.Seq.{set-set}
 use Rattle.lists.specs.Sums.{In, at, Every}
 use Rattle.lists.specs.Places.{by-set}
 use Rattle.meaning.specs.Plan.{Edge, EdgeLimits, mostSectors, mostEdges}
-use Rattle.meaning.specs.Joined.{labels}
 use Rattle.meaning.specs.Moves.{recolour}
 use Rattle.meaning.specs.MoveLaws.{recolour-own}
 use Rattle.meaning.specs.Faces.{lift, beside, pieces, areaTo}
 use Rattle.neighbours.specs.Table.{Table}
-use Rattle.neighbours.specs.Net.{table-net}
+use Rattle.neighbours.specs.Net.{Net, table-net}
+use Rattle.search.specs.declared.Met.{Met}
 use Rattle.search.specs.declared.Look.{Look}
 use Rattle.search.specs.Marks.{mark}
+use Rattle.search.specs.Flood.{Ready}
 use Rattle.search.specs.Counting.{Counting}
+use Rattle.search.specs.FaceAreas.{area-lift}
 use Rattle.search.specs.Weighing.{Weighable}
 
--- what it starts from: the table of the neighbours and areas, edges within their limits, a colouring with its labels, room in the queue for one more than all regions, a region and a sector
-pub record Looking (R : ℕ) (edges : List Edge) (start nb ar ls col queue : List ℕ) (v d : ℕ) : Type 0 where
+-- what a count of the pieces of v's component starts from: the array of neighbours, a colouring without marks, room in the queue, and a region
+pub record Lifting (R : ℕ) (edges : List Edge) (start nb col queue : List ℕ) (v : ℕ) : Type 0 where
+  pub net : Net R edges start nb
+  pub ready : Ready R col queue
+  pub region : In R v
+
+-- what a look starts from: the table of the neighbours and areas, edges within their limits, a colouring, room in the queue for one more than all regions, a region and a sector
+pub record Looking (R : ℕ) (edges : List Edge) (start nb ar col queue : List ℕ) (v d : ℕ) : Type 0 where
   pub table : Table R edges start nb ar
   pub few : length edges ≤ mostEdges
   pub limits : Every (EdgeLimits R) edges
   pub size : length col ≡ R
   pub sectors : (u : ℕ) → In R u → at col u ≤ mostSectors
-  pub labelled : ls ≡ labels edges col
   pub room : R < length queue
   pub region : In R v
   pub sector : d ≤ mostSectors
 
--- what it finds: the pieces that v's component falls into without v, the components of sector d that share a face with v, and the areas of v's edges to its own sector and to d
-pub record Looked (edges : List Edge) (col : List ℕ) (v d : ℕ) (r : Look) : Type 0 where
-  pub pieces : r .pieces ≡ pieces edges col v
+-- what v meets: the components of sector d that share a face with it, and the areas of its edges to its own sector and to d
+pub record Meets (edges : List Edge) (col : List ℕ) (v d : ℕ) (r : Met) : Type 0 where
   pub touching : r .touching ≡ beside edges col v d
   pub here : r .here ≡ areaTo edges (lift col v) v (at col v)
   pub there : r .there ≡ areaTo edges (lift col v) v d
 
-module _ {R : ℕ} {edges : List Edge} {start nb ar ls col queue : List ℕ} {v d : ℕ} (k : Looking R edges start nb ar ls col queue v d) where
+-- what a look finds: the pieces that v's component falls into without v, and what v meets
+pub record Looked (edges : List Edge) (col : List ℕ) (v d : ℕ) (r : Look) : Type 0 where
+  pub pieces : r .pieces ≡ pieces edges col v
+  pub met : Meets edges col v d (r .met)
+
+-- what v meets, and the pieces of its component in the same colouring, are what a look finds
+pub looked-both : {edges : List Edge} {col col′ : List ℕ} {v d left : ℕ} {met : Met} → col′ ≡ col → Meets edges col v d met → left ≡ pieces edges col′ v → Looked edges col v d (record { pieces = left; met = met })
+looked-both same m p = record { pieces = rw same at p; met = m }
+
+module _ {R : ℕ} {edges : List Edge} {start nb col queue : List ℕ} {v : ℕ} (k : Lifting R edges start nb col queue v) where
+  -- with v lifted out, the components of its sector may be counted
+  pub lifting-counting : Counting R edges start nb (lift col v) queue v (at col v)
+  lifting-counting =
+      record {
+        net = k .net;
+        ready = record { size = length-set col (v - 1) 0 ∙ k .ready .size; room = k .ready .room; plain = λ w i. by-set (λ (x : ℕ). x < mark) col (v - 1) (w - 1) 0 (omega arith) (k .ready .plain w i) };
+        region = k .region;
+        sector = k .ready .plain v (k .region);
+      }
+
+  module _ {col′ : List ℕ} (lifted : col′ ≡ lift col v) where
+    -- there are as many regions then
+    pub lifting-size : length col′ ≡ R
+    lifting-size = ap length lifted ∙ length-set col (v - 1) 0 ∙ k .ready .size
+
+    -- and v is put back
+    pub lifting-back : recolour col′ v (at col v) ≡ col
+    lifting-back = rw lifted (set-set col (v - 1) 0 (at col v) ∙ recolour-own col v)
+
+module _ {R : ℕ} {edges : List Edge} {start nb ar col queue : List ℕ} {v d : ℕ} (k : Looking R edges start nb ar col queue v d) where
   -- the components of sector d may be counted
   pub looking-counting : Counting R edges start nb col queue v d
   looking-counting =
@@ -50,36 +85,26 @@ module _ {R : ℕ} {edges : List Edge} {start nb ar ls col queue : List ℕ} {v 
         sector = omega (arith, k .sector);
       }
 
-  module _ {col′ queue′ : List ℕ} (same : col′ ≡ col) (kept : length queue′ ≡ length queue) where
-    -- and, once v is lifted out, those of its own sector
-    pub looking-lifted : Counting R edges start nb (lift col′ v) queue′ v (at col v)
-    looking-lifted =
+  module _ {col′ : List ℕ} (same : col′ ≡ col) where
+    -- the pieces of v's component may be counted
+    pub looking-lifting : {queue′ : List ℕ} → length queue′ ≡ length queue → Lifting R edges start nb col′ queue′ v
+    looking-lifting kept =
         record {
           net = table-net (k .table);
-          ready = record { size = length-set col′ (v - 1) 0 ∙ ap length same ∙ k .size; room = rw kept (k .room); plain = plain };
+          ready = record { size = ap length same ∙ k .size; room = rw kept (k .room); plain = λ w i. rw same (omega (arith, k .sectors w i)) };
           region = k .region;
-          sector = omega (arith, k .sectors v (k .region));
         }
-      where
-        plain : (w : ℕ) → In R w → at (lift col′ v) w < mark
-        plain w i = rw same (by-set (λ (x : ℕ). x < mark) col (v - 1) (w - 1) 0 (omega arith) (omega (arith, k .sectors w i)))
 
-  module _ {col′ col″ : List ℕ} (same : col′ ≡ col) (lifted : col″ ≡ lift col′ v) where
-    -- there are as many regions with v lifted out
-    pub looking-size : length col″ ≡ R
-    looking-size = ap length lifted ∙ length-set col′ (v - 1) 0 ∙ ap length same ∙ k .size
+    -- the areas of v's edges may be added up
+    pub looking-weighable : Weighable R edges start nb ar col′ v
+    looking-weighable = record { table = k .table; few = k .few; limits = k .limits; size = ap length same ∙ k .size; region = k .region }
 
-    -- and the areas of v's edges may be added up
-    pub looking-weighable : Weighable R edges start nb ar col″ v
-    looking-weighable = record { table = k .table; few = k .few; limits = k .limits; size = looking-size; region = k .region }
-
-    -- what is counted and added up is what is looked for, and v is put back
-    pub looking-end : {left joined here there : ℕ} → left ≡ beside edges (lift col′ v) v (at col v) → joined ≡ beside edges col v d
-        → (here ≡ areaTo edges col″ v (at col v)) × (there ≡ areaTo edges col″ v d)
-        → Looked edges col v d (record { pieces = left; touching = joined; here = here; there = there }) × (recolour col″ v (at col v) ≡ col)
-    unfolding pieces
-    looking-end p t a =
-        let e : col″ ≡ lift col v = lifted ∙ ap (λ (l : List ℕ). lift l v) same in (
-          record { pieces = rw same at p; touching = t; here = rw e at (a .0); there = rw e at (a .1) },
-          ap (λ (l : List ℕ). recolour l v (at col v)) e ∙ set-set col (v - 1) 0 (at col v) ∙ recolour-own col v,
-        )
+    -- what is counted and added up is what v meets
+    pub looking-meets : {joined here there : ℕ} → joined ≡ beside edges col v d → (here ≡ areaTo edges col′ v (at col v)) × (there ≡ areaTo edges col′ v d)
+        → Meets edges col v d (record { touching = joined; here = here; there = there })
+    looking-meets t a =
+        record {
+          touching = t;
+          here = rw same at (a .0) ∙ rw (area-lift edges (k .region) (k .limits) col (at col v));
+          there = rw same at (a .1) ∙ rw (area-lift edges (k .region) (k .limits) col d);
+        }

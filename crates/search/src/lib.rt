@@ -8,14 +8,14 @@ ghost use Rattle.lists.specs.Sums.{at, bit};
 ghost use Rattle.meaning.specs.Plan.{edgesOf};
 ghost use Rattle.meaning.specs.Joined.{instead, labels as labelsOf};
 ghost use Rattle.meaning.specs.Kinds.{areaOf, leadsTo};
-ghost use Rattle.meaning.specs.Faces.{beside, areaTo};
+ghost use Rattle.meaning.specs.Faces.{beside, pieces, areaTo};
 ghost use Rattle.search.specs.Marks.{mark, unmask};
 ghost use Rattle.search.specs.Flood.{Flood};
 ghost use Rattle.search.specs.Scan.{Span, Scan};
 ghost use Rattle.search.specs.Expanding.{Expandable, Expanded};
 ghost use Rattle.search.specs.Counting.{Counting};
 ghost use Rattle.search.specs.Weighing.{Weighable};
-ghost use Rattle.search.specs.Looking.{Looking, Looked};
+ghost use Rattle.search.specs.Looking.{Lifting, Looking, Meets, Looked};
 
 // What stands in the place of the sector of a region that a search has reached: larger than every sector.
 pub const MARK: u64 = 255;
@@ -242,15 +242,93 @@ pub fn border_at(
     sum
 }
 
-// What giving a region to a sector touches: the pieces that its component leaves, the components of the sector that share a face with it, and the areas of its faces to its own sector and to the other.
-pub struct Look {
-    pub pieces: u64,
+// How many pieces the component of a region falls into without it.
+pub fn pieces_at(
+    edges: &[u64],
+    start: &[u64],
+    near: &[u64],
+    colouring: &mut [u64],
+    queue: &mut [u64],
+    region: usize,
+) -> u64
+    requires { ⌜ Lifting (length (now start) - 1) (edgesOf (now edges)) (now start) (now near) (now colouring) (now queue) region ⌝ }
+    ensures { λ r. ⌜ r ≡ pieces (edgesOf (now (edges .entry))) (now (colouring .entry)) region ⌝ }
+    ensures { λ r. ⌜ now (colouring .exit) ≡ now (colouring .entry) ⌝ }
+{
+    let z = region - 1;
+    let own = colouring[z];
+    colouring[z] = 0;
+    let left = count_beside(edges, start, near, colouring, queue, region, own);
+    colouring[z] = own;
+    left
+}
+
+// What a region meets where it is given to a sector: the components of the sector that share a face with it, and the areas of its faces to its own sector and to the other.
+pub struct Met {
     pub touching: u64,
     pub here: u64,
     pub there: u64,
 }
 
-// Looks at giving a region to a sector.
+// What a region meets where it is given to a sector, by the labels.
+pub fn meet(
+    edges: &[u64],
+    start: &[u64],
+    near: &[u64],
+    areas: &[u64],
+    labels: &[u64],
+    colouring: &mut [u64],
+    queue: &mut [u64],
+    region: usize,
+    sector: u64,
+) -> Met
+    requires { ⌜ Looking (length (now start) - 1) (edgesOf (now edges)) (now start) (now near) (now areas) (now colouring) (now queue) region sector ⌝ }
+    requires { ⌜ now labels ≡ labelsOf (edgesOf (now edges)) (now colouring) ⌝ }
+    ensures { λ r. ⌜ Meets (edgesOf (now (edges .entry))) (now (colouring .entry)) region sector r ⌝ }
+    ensures { λ r. ⌜ now (colouring .exit) ≡ now (colouring .entry) ⌝ }
+{
+    let own = colouring[region - 1];
+    let joined = touching(edges, start, near, labels, colouring, queue, region, sector);
+    let faces = areas_of(edges, start, near, areas, colouring, region, own, sector);
+    Met {
+        touching: joined as u64,
+        here: faces.here,
+        there: faces.there,
+    }
+}
+
+// What a region meets where it is given to a sector, by a search of the sector's components.
+fn meet_anew(
+    edges: &[u64],
+    start: &[u64],
+    near: &[u64],
+    areas: &[u64],
+    colouring: &mut [u64],
+    queue: &mut [u64],
+    region: usize,
+    sector: u64,
+) -> Met
+    requires { ⌜ Looking (length (now start) - 1) (edgesOf (now edges)) (now start) (now near) (now areas) (now colouring) (now queue) region sector ⌝ }
+    ensures { λ r. ⌜ Meets (edgesOf (now (edges .entry))) (now (colouring .entry)) region sector r ⌝ }
+    ensures { λ r. ⌜ now (colouring .exit) ≡ now (colouring .entry) ⌝ }
+{
+    let own = colouring[region - 1];
+    let joined = count_beside(edges, start, near, colouring, queue, region, sector);
+    let faces = areas_of(edges, start, near, areas, colouring, region, own, sector);
+    Met {
+        touching: joined,
+        here: faces.here,
+        there: faces.there,
+    }
+}
+
+// What giving a region to a sector touches: the pieces that its component leaves, and what it meets.
+pub struct Look {
+    pub pieces: u64,
+    pub met: Met,
+}
+
+// Looks at giving a region to a sector, by the labels.
 pub fn look_at(
     edges: &[u64],
     start: &[u64],
@@ -262,20 +340,42 @@ pub fn look_at(
     region: usize,
     sector: u64,
 ) -> Look
-    requires { ⌜ Looking (length (now start) - 1) (edgesOf (now edges)) (now start) (now near) (now areas) (now labels) (now colouring) (now queue) region sector ⌝ }
+    requires { ⌜ Looking (length (now start) - 1) (edgesOf (now edges)) (now start) (now near) (now areas) (now colouring) (now queue) region sector ⌝ }
+    requires { ⌜ now labels ≡ labelsOf (edgesOf (now edges)) (now colouring) ⌝ }
     ensures { λ r. ⌜ Looked (edgesOf (now (edges .entry))) (now (colouring .entry)) region sector r ⌝ }
     ensures { λ r. ⌜ now (colouring .exit) ≡ now (colouring .entry) ⌝ }
 {
-    let own = colouring[region - 1];
-    let joined = touching(edges, start, near, labels, colouring, queue, region, sector);
-    colouring[region - 1] = 0;
-    let left = count_beside(edges, start, near, colouring, queue, region, own);
-    let faces = areas_of(edges, start, near, areas, colouring, region, own, sector);
-    colouring[region - 1] = own;
-    Look {
-        pieces: left,
-        touching: joined as u64,
-        here: faces.here,
-        there: faces.there,
-    }
+    let met = meet(
+        edges,
+        start,
+        near,
+        areas,
+        labels,
+        colouring,
+        queue,
+        region,
+        sector,
+    );
+    let left = pieces_at(edges, start, near, colouring, queue, region);
+    Look { pieces: left, met }
+}
+
+// Looks at giving a region to a sector, where the labels are not known.
+pub fn look_anew(
+    edges: &[u64],
+    start: &[u64],
+    near: &[u64],
+    areas: &[u64],
+    colouring: &mut [u64],
+    queue: &mut [u64],
+    region: usize,
+    sector: u64,
+) -> Look
+    requires { ⌜ Looking (length (now start) - 1) (edgesOf (now edges)) (now start) (now near) (now areas) (now colouring) (now queue) region sector ⌝ }
+    ensures { λ r. ⌜ Looked (edgesOf (now (edges .entry))) (now (colouring .entry)) region sector r ⌝ }
+    ensures { λ r. ⌜ now (colouring .exit) ≡ now (colouring .entry) ⌝ }
+{
+    let met = meet_anew(edges, start, near, areas, colouring, queue, region, sector);
+    let left = pieces_at(edges, start, near, colouring, queue, region);
+    Look { pieces: left, met }
 }

@@ -85,7 +85,7 @@ probe-requires-2 : tie.Need-probe-requires-2
 probe-requires-2 c κs = let s = c .before .before .before .before .before .before .before .before .before .before .before .before .before .before .before .before .before .before .pre in exchange-finds (s .0) (s .1 .0) (s .1 .1) (c .before .before .before .before .before .before .asked2 .given .1)
 
 delta-requires-4 : tie.Need-delta-requires-4
-delta-requires-4 c κs = let s = c .before .before .before .before .before .before .before .before .before .before .before .before .before .before .before .before .before .before .before .before .before .before .before .before .before .before .before .pre in probed-small (s .0) (s .1 .0) (exchange-tries (c .before .before .before .before .before .before .before .before .before .before .before .before .before .before .before .asked2 .given .1)) (c .before .before .before .before .before .before .before .before .probe2 .ensures .0)
+delta-requires-4 c κs = let s = c .before .before .before .before .before .before .before .before .before .before .before .before .before .before .before .before .before .before .before .before .before .before .before .pre in probed-small (s .0) (s .1 .0) (exchange-tries (c .before .before .before .before .before .before .before .before .before .before .before .asked2 .given .1)) (c .before .before .before .before .probe2 .ensures .0)
 
 same-length-13 : tie.Need-same-length-13
 same-length-13 c = search needs
@@ -101,9 +101,9 @@ same-length-16 c = search needs
 
 returns-4 : tie.Need-returns-4
 returns-4 c =
-    let s = c .before .before .before .before .before .before .before .before .before .before .before .before .before .before .before .before .before .before .before .before .before .before .before .before .before .before .before .before .pre in
-    let p = c .before .before .before .before .before .before .before .before .before .probe2 .ensures in
-    probed-answered (s .0) (s .1 .0) (exchange-tries (c .before .before .before .before .before .before .before .before .before .before .before .before .before .before .before .before .asked2 .given .1)) (p .0) (c .before .before .before .before .before .before .before .before .before .before .before .before .before .before .if2 .left) (p .1) (c .delta4 .ensures)
+    let s = c .before .before .before .before .before .before .before .before .before .before .before .before .before .before .before .before .before .before .before .before .before .before .before .before .pre in
+    let p = c .before .before .before .before .before .probe2 .ensures in
+    probed-answered (s .0) (s .1 .0) (exchange-tries (c .before .before .before .before .before .before .before .before .before .before .before .before .asked2 .given .1)) (p .0) (c .before .before .before .before .before .before .before .before .before .before .if2 .left) (ready-left (s .0 .limits) (s .1 .0) (p .1)) (c .delta4 .ensures)
 
 enum-known-asked-3 : tie.Need-enum-known-asked-3
 enum-known-asked-3 c = search needs

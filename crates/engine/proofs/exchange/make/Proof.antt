@@ -1,37 +1,15 @@
--- Regions of one sector change nothing; otherwise both recolourings are made in turn, and the labels kept from before are compared with those after both.
-use Prim.Native.Nat.{ℕ, _≤_}
-use native.Mathlib.Omega.{arith}
-use mathlib.Core.Path.{_≡_, sym, _∙_}
+-- Regions of one sector change nothing; otherwise the colouring and the labels follow both recolourings, and then all else.
 use borrow.Author.Needs.{needs}
-use lib.ListN.{length, take}
+use native.Mathlib.Omega.{arith}
+use mathlib.Core.Path.{sym}
 use lib.Seq.{length-take-le}
-use Rattle.engine.specs.Exchanging.{alike-remade, exchanging-first, exchanging-second, exchanging-remade}
+use Rattle.engine.specs.Memory.{kept-labels}
+use Rattle.engine.specs.Turning.{turning-placed, turning-sides}
+use Rattle.engine.specs.Swapping.{swapping-first}
+use Rattle.engine.specs.Settling.{followed-settling, followed-remade}
+use Rattle.engine.specs.Exchanging.{alike-remade, exchanging-kept, exchanging-swapping}
 use Rattle.engine.proofs.exchange.make.Statement.{statement}
 use Rattle.engine.proofs.exchange.make.Tie as tie
-
--- the entry, from the test
-abbrev entry : tie.Else1 → tie.Start
-entry c = c .before .before .before .before .before .before .before .before .before .before .before .before .before
-
--- how many regions there are
-abbrev regions : tie.Else1 → ℕ
-regions c = length (entry c .args .workloads .now)
-
--- there is room to keep a label for each
-kept : (c : tie.After-copy) → regions (c .before .before .before) ≤ length (c .copy .last .1 .0)
-kept c = omega (arith, c .copy .kept .1 .0, entry (c .before .before .before) .pre .setting .limits .R)
-
--- and one is kept
-labels-size : (c : tie.After-copy) → length (take (regions (c .before .before .before)) (c .copy .last .1 .0)) ≡ regions (c .before .before .before)
-labels-size c = length-take-le _ (c .copy .last .1 .0) (kept c)
-
--- the work memory has room for them still
-room : (c : tie.After-make2) → regions (c .before .before .before .before .before .before .before .before .before .before .before .before .before .before .before .before .before .before .before .before .before .before .before) ≤ length (c .make2 .last .1 .1 .1 .1 .1 .1 .1 .1 .1 .0)
-room c = omega (arith, c .make2 .kept .1 .1 .1 .1 .1 .1 .1 .1 .1 .0, c .before .before .before .before .before .before .before .before .before .before .before .before .before .before .make .kept .1 .1 .1 .1 .1 .1 .1 .1 .1 .0, entry (c .before .before .before .before .before .before .before .before .before .before .before .before .before .before .before .before .before .before .before .before .before .before .before) .pre .ready .room)
-
--- and one stands there for each
-work-size : (c : tie.After-make2) → length (take (regions (c .before .before .before .before .before .before .before .before .before .before .before .before .before .before .before .before .before .before .before .before .before .before .before)) (c .make2 .last .1 .1 .1 .1 .1 .1 .1 .1 .1 .0)) ≡ regions (c .before .before .before .before .before .before .before .before .before .before .before .before .before .before .before .before .before .before .before .before .before .before .before)
-work-size c = length-take-le _ (c .make2 .last .1 .1 .1 .1 .1 .1 .1 .1 .1 .0) (room c)
 
 sub-from : tie.Need-sub-from
 sub-from c = search needs
@@ -54,63 +32,41 @@ slice-read-to c = search needs
 returns : tie.Need-returns
 returns c = alike-remade (c .before .before .before .before .before .before .before .before .before .before .before .before .before .pre) (c .if1 .taken)
 
-slice-reshare-prefix-copy : tie.Need-slice-reshare-prefix-copy
-slice-reshare-prefix-copy c = search needs
+sides-in-requires : tie.Need-sides-in-requires
+sides-in-requires c κs = let k = c .before .before .before .before .before .before .before .before .before .before .before .before .before .before .pre in turning-placed (swapping-first (exchanging-swapping k (c .before .if1 .left))) (exchanging-kept k)
 
-slice-aggregate-copy : tie.Need-slice-aggregate-copy
-slice-aggregate-copy c =
-    let s = entry (c .before) in
-    sym (length-take-le _ (s .args .work .now) (omega (arith, s .pre .ready .room)))
+slice-relend-prefix-turn-both : tie.Need-slice-relend-prefix-turn-both
+slice-relend-prefix-turn-both c = search needs
 
-slice-aggregate-copy-2 : tie.Need-slice-aggregate-copy-2
-slice-aggregate-copy-2 c = search needs
+slice-aggregate-turn-both : tie.Need-slice-aggregate-turn-both
+slice-aggregate-turn-both c = let s = c .before .before .before .before .before .before .before .before .before .before .before .before .before .before .before .before .before in sym (length-take-le _ (s .args .work .now) (omega (arith, s .pre .ready .room)))
 
-copy-requires : tie.Need-copy-requires
-copy-requires c κs =
-    let s = entry (c .before .before) in
-    omega (arith, length-take-le (length (s .args .workloads .now)) (s .args .work .now) (omega (arith, s .pre .ready .room)), s .pre .setting .limits .R)
+turn-both-requires : tie.Need-turn-both-requires
+turn-both-requires c κs =
+    let k = c .before .before .before .before .before .before .before .before .before .before .before .before .before .before .before .before .before .before .pre in
+    let t = exchanging-swapping k (c .before .before .before .before .before .if1 .left) in
+    (t, (turning-sides (swapping-first (t)) (exchanging-kept k) (c .before .before .before .sides-in .ensures), kept-labels (exchanging-kept k)))
 
-make-requires : tie.Need-make-requires
-make-requires c κs = exchanging-first (entry (c .before .before .before .before .before .before .before .before) .pre)
-
-make-requires-2 : tie.Need-make-requires-2
-make-requires-2 c κs =
-    let m = c .before .before .before .before .before .before .before .before .before .before .before .before .before .make in
-    exchanging-second (entry (c .before .before .before .before .before .before .before .before .before .before .before .before .before .before .before .before .before .before .before .before .before .before) .pre) (m .ensures) (m .kept .1 .1 .1 .1 .1 .1 .1 .1 .1 .1 .1 .0)
-
-array-share-prefix-labels : tie.Need-array-share-prefix-labels
-array-share-prefix-labels c = kept (c .before .before .before .before .before .before .before .before .before .before .before .before .before .before .before .before .before .before .before .before .before .before .before .before .before .before .before .before)
-
-slice-aggregate-differing : tie.Need-slice-aggregate-differing
-slice-aggregate-differing c = sym (labels-size (c .before .before .before .before .before .before .before .before .before .before .before .before .before .before .before .before .before .before .before .before .before .before .before .before .before .before .before .before .before))
-
-slice-reshare-prefix-differing : tie.Need-slice-reshare-prefix-differing
-slice-reshare-prefix-differing c = room (c .before .before .before .before .before .before .before .before .before)
-
-slice-aggregate-differing-2 : tie.Need-slice-aggregate-differing-2
-slice-aggregate-differing-2 c = sym (work-size (c .before .before .before .before .before .before .before .before .before .before))
-
-differing-requires : tie.Need-differing-requires
-differing-requires c κs = labels-size (c .before .before .before .before .before .before .before .before .before .before .before .before .before .before .before .before .before .before .before .before .before .before .before .before .before .before .before .before .before .before) ∙ sym (work-size (c .before .before .before .before .before .before .before .before .before .before))
-
-recounted-requires : tie.Need-recounted-requires
-recounted-requires c κs = search needs
+settle-requires : tie.Need-settle-requires
+settle-requires c κs = let k = c .before .before .before .before .before .before .before .before .before .before .before .before .before .before .before .before .before .before .before .before .before .before .before .before .before .before .before .before .pre in followed-settling (k .setting) (k .ready) (c .before .before .before .before .before .before .before .before .before .turn-both .ensures)
 
 same-length : tie.Need-same-length
-same-length c = c .before .before .before .before .before .before .before .before .before .before .before .before .make2 .kept .1 .1 .1 .1 .1 .1 .1 .1 .0 ∙ c .before .before .before .before .before .before .before .before .before .before .before .before .before .before .before .before .before .before .before .before .before .before .before .before .before .before .make .kept .1 .1 .1 .1 .1 .1 .1 .1 .0
+same-length c = search needs
 
 same-length-2 : tie.Need-same-length-2
-same-length-2 c = c .before .before .before .before .before .before .before .before .before .before .before .before .make2 .kept .1 .1 .1 .1 .1 .1 .1 .1 .1 .0 ∙ c .before .before .before .before .before .before .before .before .before .before .before .before .before .before .before .before .before .before .before .before .before .before .before .before .before .before .make .kept .1 .1 .1 .1 .1 .1 .1 .1 .1 .0
+same-length-2 c = search needs
 
 same-length-3 : tie.Need-same-length-3
-same-length-3 c = c .before .before .before .before .before .before .before .before .before .before .before .before .make2 .kept .1 .1 .1 .1 .1 .1 .1 .1 .1 .1 .0 ∙ c .before .before .before .before .before .before .before .before .before .before .before .before .before .before .before .before .before .before .before .before .before .before .before .before .before .before .make .kept .1 .1 .1 .1 .1 .1 .1 .1 .1 .1 .0
+same-length-3 c = search needs
 
 same-length-4 : tie.Need-same-length-4
 same-length-4 c = search needs
 
 returns-2 : tie.Need-returns-2
 returns-2 c =
-    exchanging-remade (entry (c .before .before .before .before .before .before .before .before .before .before .before .before .before .before .before .before .before .before .before .before .before .before .before .before .before .before .before .before .before .before .before .before .before .before .before) .pre) (c .before .before .before .before .before .before .before .before .before .before .before .before .before .before .before .before .before .before .before .before .before .before .before .before .before .before .make .ensures) _ (c .before .before .before .before .before .before .before .before .before .before .before .before .make2 .ensures) (c .before .before .before .before .before .before .before .before .before .before .before .before .before .before .before .before .before .before .before .before .before .before .before .before .before .before .before .before .before .before .before .before .copy .ensures) (c .before .differing .ensures) (c .recounted .ensures)
+    let k = c .before .before .before .before .before .before .before .before .before .before .before .before .before .before .before .before .before .before .before .before .before .before .before .before .before .before .before .before .before .before .before .before .before .pre in
+    let s = c .before .before .before .before .settle .ensures in
+    followed-remade (k .setting) (k .ready) (c .before .before .before .before .before .before .before .before .before .before .before .before .before .before .turn-both .ensures) (s .0) (s .1)
 
 pub make-spec : {M : Type 1} → statement M
 make-spec =
@@ -123,18 +79,11 @@ make-spec =
     mul-to
     slice-read-to
     returns
-    slice-reshare-prefix-copy
-    slice-aggregate-copy
-    slice-aggregate-copy-2
-    copy-requires
-    make-requires
-    make-requires-2
-    array-share-prefix-labels
-    slice-aggregate-differing
-    slice-reshare-prefix-differing
-    slice-aggregate-differing-2
-    differing-requires
-    recounted-requires
+    sides-in-requires
+    slice-relend-prefix-turn-both
+    slice-aggregate-turn-both
+    turn-both-requires
+    settle-requires
     same-length
     same-length-2
     same-length-3

@@ -1,14 +1,10 @@
--- Regions of one sector leave the total; otherwise the second is probed on what the first leaves, and the first is given back, which leaves all as it was.
-use mathlib.Core.Path.{refl, _∙_}
+-- Regions of one sector leave the total; otherwise the figures and the total follow the change of both recolourings.
 use borrow.Author.Needs.{needs}
-use Rattle.engine.specs.Remade.{ready-left}
-use Rattle.engine.specs.Exchanging.{alike-total, exchanging-first, exchanging-second, exchanging-total, exchanging-back, exchanging-left}
+use mathlib.Core.Path.{refl}
+use Rattle.engine.specs.Changing.{ready-changing, changing-shifting, changing-totalling, total-changed}
+use Rattle.engine.specs.Exchanging.{alike-total, exchanging-kept, exchanging-swapping}
 use Rattle.engine.proofs.exchange.probe.Statement.{statement}
 use Rattle.engine.proofs.exchange.probe.Tie as tie
-
--- the entry, from the test
-abbrev entry : tie.Else1 → tie.Start
-entry c = c .before .before .before .before .before .before .before .before .before .before .before .before .before
 
 sub-own : tie.Need-sub-own
 sub-own c = search needs
@@ -29,40 +25,30 @@ slice-read-other : tie.Need-slice-read-other
 slice-read-other c = search needs
 
 returns : tie.Need-returns
-returns c = let s = c .before .before .before .before .before .before .before .before .before .before .before .before .before .pre in (alike-total s (c .if1 .taken), ready-left (s .setting .limits) (s .ready) refl)
+returns c = (alike-total (c .before .before .before .before .before .before .before .before .before .before .before .before .before .pre) (c .if1 .taken), refl)
 
-make-requires : tie.Need-make-requires
-make-requires c κs = exchanging-first (entry (c .before .before .before .before) .pre)
+change-both-requires : tie.Need-change-both-requires
+change-both-requires c κs = let k = c .before .before .before .before .before .before .before .before .before .before .before .before .before .before .before .pre in (exchanging-swapping k (c .before .before .if1 .left), exchanging-kept k)
 
-probe-requires : tie.Need-probe-requires
-probe-requires c κs =
-    let m = c .before .before .before .before .before .before .before .before .before .before .before .before .before .make in
-    exchanging-second (entry (c .before .before .before .before .before .before .before .before .before .before .before .before .before .before .before .before .before .before) .pre) (m .ensures) (m .kept .1 .1 .1 .1 .1 .1 .1 .1 .1 .1 .1 .0)
+figures-after-requires : tie.Need-figures-after-requires
+figures-after-requires c κs = let k = c .before .before .before .before .before .before .before .before .before .before .before .before .before .before .before .before .before .before .before .before .pre in changing-shifting (ready-changing (k .setting) (k .ready) (c .before .before .before .before .change-both .ensures .0))
 
-make-requires-2 : tie.Need-make-requires-2
-make-requires-2 c κs =
-    let p = c .before .before .before .before .before .before .before .before .probe in
-    let m = c .before .before .before .before .before .before .before .before .before .before .before .before .before .before .before .before .before .before .before .before .before .before .make in
-    exchanging-back (entry (c .before .before .before .before .before .before .before .before .before .before .before .before .before .before .before .before .before .before .before .before .before .before .before .before .before .before .before) .pre) (m .ensures) (p .ensures .1) (p .kept .1 .1 .1 .1 .1 .1 .1 .1 .1 .1 .1 .0 ∙ m .kept .1 .1 .1 .1 .1 .1 .1 .1 .1 .1 .1 .0)
+total-after-requires : tie.Need-total-after-requires
+total-after-requires c κs =
+    let k = c .before .before .before .before .before .before .before .before .before .before .before .before .before .before .before .before .before .before .before .before .before .pre in
+    changing-totalling (ready-changing (k .setting) (k .ready) (c .before .before .before .before .before .change-both .ensures .0)) (c .figures-after .ensures) _ refl
 
 same-length : tie.Need-same-length
-same-length c = c .before .before .before .before .before .before .before .before .make2 .kept .1 .1 .1 .1 .1 .1 .1 .1 .0 ∙ c .before .before .before .before .before .before .before .before .before .before .before .before .before .before .before .before .before .probe .kept .1 .1 .1 .1 .1 .1 .1 .1 .0 ∙ c .before .before .before .before .before .before .before .before .before .before .before .before .before .before .before .before .before .before .before .before .before .before .before .before .before .before .before .before .before .before .before .make .kept .1 .1 .1 .1 .1 .1 .1 .1 .0
+same-length c = search needs
 
 same-length-2 : tie.Need-same-length-2
-same-length-2 c = c .before .before .before .before .before .before .before .before .make2 .kept .1 .1 .1 .1 .1 .1 .1 .1 .1 .0 ∙ c .before .before .before .before .before .before .before .before .before .before .before .before .before .before .before .before .before .before .before .before .before .before .before .before .before .before .before .before .before .before .before .make .kept .1 .1 .1 .1 .1 .1 .1 .1 .1 .0
-
-same-length-3 : tie.Need-same-length-3
-same-length-3 c = c .before .before .before .before .before .before .before .before .make2 .kept .1 .1 .1 .1 .1 .1 .1 .1 .1 .1 .0 ∙ c .before .before .before .before .before .before .before .before .before .before .before .before .before .before .before .before .before .before .before .before .before .before .before .before .before .before .before .before .before .before .before .make .kept .1 .1 .1 .1 .1 .1 .1 .1 .1 .1 .0
-
-same-length-4 : tie.Need-same-length-4
-same-length-4 c = c .before .before .before .before .before .before .before .before .make2 .kept .1 .1 .1 .1 .1 .1 .1 .1 .1 .1 .1 .0 ∙ c .before .before .before .before .before .before .before .before .before .before .before .before .before .before .before .before .before .probe .kept .1 .1 .1 .1 .1 .1 .1 .1 .1 .1 .1 .0 ∙ c .before .before .before .before .before .before .before .before .before .before .before .before .before .before .before .before .before .before .before .before .before .before .before .before .before .before .before .before .before .before .before .make .kept .1 .1 .1 .1 .1 .1 .1 .1 .1 .1 .1 .0
+same-length-2 c = search needs
 
 returns-2 : tie.Need-returns-2
 returns-2 c =
-    let s = entry (c .before .before .before .before .before .before .before .before .before .before .before .before .before .before .before .before .before .before .before .before .before .before .before .before .before .before .before .before .before .before .before .before .before .before .before .before) .pre in
-    let m = c .before .before .before .before .before .before .before .before .before .before .before .before .before .before .before .before .before .before .before .before .before .before .before .before .before .before .before .before .before .before .before .make .ensures in
-    let p = c .before .before .before .before .before .before .before .before .before .before .before .before .before .before .before .before .before .probe .ensures in
-    (exchanging-total s m (p .0), exchanging-left s m (p .1) (c .before .before .before .before .before .before .before .before .make2 .ensures))
+    let k = c .before .before .before .before .before .before .before .before .before .before .before .before .before .before .before .before .before .before .before .before .before .before .pre in
+    let t = c .before .before .before .before .before .before .change-both .ensures in
+    (total-changed (ready-changing (k .setting) (k .ready) (t .0)) (c .before .figures-after .ensures) _ refl (c .total-after .ensures), t .1)
 
 pub probe-spec : {M : Type 1} → statement M
 probe-spec =
@@ -75,11 +61,9 @@ probe-spec =
     mul-other
     slice-read-other
     returns
-    make-requires
-    probe-requires
-    make-requires-2
+    change-both-requires
+    figures-after-requires
+    total-after-requires
     same-length
     same-length-2
-    same-length-3
-    same-length-4
     returns-2)

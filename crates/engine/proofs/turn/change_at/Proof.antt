@@ -1,0 +1,71 @@
+-- What stands in the work memory and what the look finds make the change; the look leaves the colouring as it was.
+use borrow.Author.Needs.{needs}
+use native.Mathlib.Omega.{arith}
+use mathlib.Core.Path.{sym}
+use lib.Seq.{length-take-le}
+use Rattle.engine.specs.Memory.{kept-labels}
+use Rattle.engine.specs.Turning.{turning-placed, turning-sides, turning-looking, turning-movable, turning-turns}
+use Rattle.engine.proofs.turn.change_at.Statement.{statement}
+use Rattle.engine.proofs.turn.change_at.Tie as tie
+
+sub-sides-in : tie.Need-sub-sides-in
+sub-sides-in c = search needs
+
+mul-sides-in : tie.Need-mul-sides-in
+mul-sides-in c = search needs
+
+slice-read-sides-in : tie.Need-slice-read-sides-in
+slice-read-sides-in c = search needs
+
+sides-in-requires : tie.Need-sides-in-requires
+sides-in-requires c κs = let s = c .before .before .before .before .before .before .before .before .before .before .pre in turning-placed (s .0) (s .1)
+
+sub-workload : tie.Need-sub-workload
+sub-workload c = search needs
+
+mul-workload : tie.Need-mul-workload
+mul-workload c = search needs
+
+shared-slice-read-workload : tie.Need-shared-slice-read-workload
+shared-slice-read-workload c = search needs
+
+slice-aggregate-look-at : tie.Need-slice-aggregate-look-at
+slice-aggregate-look-at c = let s = c .before .before .before .before .before .before .before .before .before .before .before .before .before in sym (length-take-le _ (s .args .work .now) (omega (arith, s .pre .1 .room)))
+
+look-at-requires : tie.Need-look-at-requires
+look-at-requires c κs = let s = c .before .before .before .before .before .before .before .before .before .before .before .before .before .before .before .pre in (turning-looking (s .0), kept-labels (s .1))
+
+change-of-requires : tie.Need-change-of-requires
+change-of-requires c κs =
+    let s = c .before .before .before .before .before .before .before .before .before .before .before .before .before .before .before .before .before .before .before .before .pre in
+    turning-movable (s .0) (turning-sides (s .0) (s .1) (c .before .before .before .before .before .before .before .before .before .sides-in .ensures)) (c .before .before .before .before .look-at .ensures .0)
+
+same-length : tie.Need-same-length
+same-length c = search needs
+
+same-length-2 : tie.Need-same-length-2
+same-length-2 c = search needs
+
+returns : tie.Need-returns
+returns c =
+    let s = c .before .before .before .before .before .before .before .before .before .before .before .before .before .before .before .before .before .before .before .before .before .pre in
+    let look = c .before .before .before .before .before .look-at .ensures in
+    (turning-turns (s .0) (turning-sides (s .0) (s .1) (c .before .before .before .before .before .before .before .before .before .before .sides-in .ensures)) (look .0) (c .change-of .ensures), look .1)
+
+pub change-at-spec : {M : Type 1} → statement M
+change-at-spec =
+    tie.close
+    (tie.spec
+    sub-sides-in
+    mul-sides-in
+    slice-read-sides-in
+    sides-in-requires
+    sub-workload
+    mul-workload
+    shared-slice-read-workload
+    slice-aggregate-look-at
+    look-at-requires
+    change-of-requires
+    same-length
+    same-length-2
+    returns)

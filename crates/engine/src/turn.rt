@@ -1,0 +1,170 @@
+// What giving a region to another sector changes: as it would be, and as the colouring and the labels follow it.
+ghost use mathlib.Core.Path.{_≡_};
+ghost use Prim.Native.Nat.{_*_, _≤_};
+ghost use lib.ListN.{length};
+ghost use Rattle.lists.specs.Sums.{at};
+ghost use Rattle.meaning.specs.Plan.{Plan, planOf, mostEdges, mostArea};
+ghost use Rattle.meaning.specs.Joined.{labels as labelsOf};
+ghost use Rattle.meaning.specs.Moves.{recolour};
+ghost use Rattle.change.specs.Changed.{sidesOf};
+ghost use Rattle.engine.specs.Memory.{Kept};
+ghost use Rattle.engine.specs.Turning.{Movable, changeOf, Turning, Turns, Followed};
+use crate::memory::sides_in;
+use change::Change;
+use change::Pair;
+use change::Sides;
+use search::Look;
+use search::look_anew;
+use search::look_at;
+use search::meet;
+
+// What giving a region to another sector changes, by what the two sectors have before it, the region's workload and a look at the region.
+fn change_of(before: Sides, workload: u64, look: Look) -> Change
+    requires { ⌜ Movable before workload look ⌝ }
+    ensures { λ r. ⌜ r ≡ changeOf before workload look ⌝ }
+{
+    let components = before.components;
+    let workloads = before.workloads;
+    let met = look.met;
+    let components_after = Pair {
+        old: components.old + look.pieces - 1,
+        new: components.new + 1 - met.touching,
+    };
+    let workloads_after = Pair {
+        old: workloads.old - workload,
+        new: workloads.new + workload,
+    };
+    let after = Sides {
+        components: components_after,
+        workloads: workloads_after,
+    };
+    Change {
+        before,
+        after,
+        gained: met.here,
+        lost: met.there,
+    }
+}
+
+// What giving the region to another sector would change, by what stands in the work memory.
+pub fn change_at(
+    sectors: u64,
+    workloads: &[u64],
+    edges: &[u64],
+    constraints: &[u64],
+    start: &[u64],
+    near: &[u64],
+    areas: &[u64],
+    colouring: &mut [u64],
+    work: &[u64],
+    queue: &mut [u64],
+    region: u64,
+    sector: u64,
+) -> Change
+    ghost { Plan }
+    requires { λ P. ⌜ planOf (length (now workloads)) sectors (now workloads) (now edges) (now constraints) ≡ P ⌝ }
+    requires { λ P. ⌜ Turning P (now start) (now near) (now areas) (now colouring) (now queue) region sector ⌝ }
+    requires { λ P. ⌜ Kept P (now colouring) (now work) ⌝ }
+    ensures { λ P r. ⌜ Turns P (now (colouring .entry)) region sector r ⌝ }
+    ensures { λ P r. ⌜ now (colouring .exit) ≡ now (colouring .entry) ⌝ }
+{
+    let regions = workloads.len();
+    let v = region as usize;
+    let before = sides_in(work, regions, sectors, colouring[v - 1], sector);
+    let workload = workloads[v - 1];
+    let look = look_at(
+        edges,
+        start,
+        near,
+        areas,
+        &work[..regions],
+        colouring,
+        queue,
+        v,
+        sector,
+    );
+    change_of(before, workload, look)
+}
+
+// What giving the region to another sector would change, by what the two sectors have, where the labels are not known.
+pub fn change_anew(
+    sectors: u64,
+    workloads: &[u64],
+    edges: &[u64],
+    constraints: &[u64],
+    start: &[u64],
+    near: &[u64],
+    areas: &[u64],
+    colouring: &mut [u64],
+    queue: &mut [u64],
+    before: Sides,
+    region: u64,
+    sector: u64,
+) -> Change
+    ghost { Plan }
+    requires { λ P. ⌜ planOf (length (now workloads)) sectors (now workloads) (now edges) (now constraints) ≡ P ⌝ }
+    requires { λ P. ⌜ Turning P (now start) (now near) (now areas) (now colouring) (now queue) region sector ⌝ }
+    requires { λ P. ⌜ before ≡ sidesOf P (now colouring) (at (now colouring) region) sector ⌝ }
+    ensures { λ P r. ⌜ Turns P (now (colouring .entry)) region sector r ⌝ }
+    ensures { λ P r. ⌜ now (colouring .exit) ≡ now (colouring .entry) ⌝ }
+{
+    let v = region as usize;
+    let workload = workloads[v - 1];
+    let look = look_anew(edges, start, near, areas, colouring, queue, v, sector);
+    change_of(before, workload, look)
+}
+
+// What has changed, and how many labels are new.
+pub struct Turned {
+    pub change: Change,
+    pub relabelled: u64,
+}
+
+// Gives the region to another sector in the colouring, brings the labels up to date, and answers what that changes, by what the two sectors have before it.
+pub fn turn(
+    sectors: u64,
+    workloads: &[u64],
+    edges: &[u64],
+    constraints: &[u64],
+    start: &[u64],
+    near: &[u64],
+    areas: &[u64],
+    colouring: &mut [u64],
+    labels: &mut [u64],
+    queue: &mut [u64],
+    before: Sides,
+    region: u64,
+    sector: u64,
+) -> Turned
+    ghost { Plan }
+    requires { λ P. ⌜ planOf (length (now workloads)) sectors (now workloads) (now edges) (now constraints) ≡ P ⌝ }
+    requires { λ P. ⌜ Turning P (now start) (now near) (now areas) (now colouring) (now queue) region sector ⌝ }
+    requires { λ P. ⌜ before ≡ sidesOf P (now colouring) (at (now colouring) region) sector ⌝ }
+    requires { λ P. ⌜ now labels ≡ labelsOf (P .edges) (now colouring) ⌝ }
+    ensures { λ P r. ⌜ Followed P (now (colouring .entry)) (recolour (now (colouring .entry)) region sector) (at (now (colouring .entry)) region) sector (now (colouring .exit)) (now (labels .exit)) r ⌝ }
+    ensures { λ P r. ⌜ r .change .gained ≤ mostEdges * mostArea ⌝ }
+{
+    let v = region as usize;
+    let workload = workloads[v - 1];
+    let met = meet(
+        edges,
+        start,
+        near,
+        areas,
+        labels,
+        colouring,
+        queue,
+        v,
+        sector,
+    );
+    let labelled = relabel::recolour(edges, start, near, colouring, labels, queue, v, sector);
+    let look = Look {
+        pieces: labelled.pieces,
+        met,
+    };
+    let change = change_of(before, workload, look);
+    Turned {
+        change,
+        relabelled: labelled.relabelled,
+    }
+}
