@@ -1,0 +1,13 @@
+pub mod MoveLists
+pub mod MoveNumbers
+pub mod Calls
+pub mod Work
+pub mod Sums
+pub mod Cutting
+pub mod Rows
+pub mod Probes
+pub mod Recolourings
+pub mod Tables
+pub mod Rules
+pub mod RuleLaws
+pub mod Refusals

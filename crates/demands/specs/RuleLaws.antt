@@ -1,0 +1,208 @@
+-- The tests and the rows of the call's table say what the rules say.
+-- Assumes nothing.
+use Prim.Native.Nat.{ℕ, zero, suc, _+_, _-_, _*_, _/_, _%_, _≤_, _<_}
+use native.Mathlib.Numerals.{sub-one}
+use native.Mathlib.Omega.{arith}
+use native.Mathlib.Decide.{ℕ-discrete}
+use mathlib.Core.Path.{_≡_, refl, sym, _∙_}
+use mathlib.Core.Logic.{_≢_, _⊎_, inl, inr, ⊎-elim, _↔_, Iff·trans, Iff·and}
+use mathlib.Core.Bool.{Bool, true, false, cond, _&&_, _||_, and-eq-true-iff, true≢false}
+use mathlib.Mathlib.Data.Bool.Basic.{or-inl, or-inr}
+use mathlib.Core.List.{List, [], _∷_}
+use borrow.Author.Tests.{leb-true, le-leb, ltb-true, lt-ltb, eqb-true, eq-eqb, ne-eqb, not-false}
+use lib.Dec.{eqb, leb, ltb, T}
+use lib.ListN.{length, take, drop}
+use Rattle.lists.specs.Sums.{In}
+use Rattle.lists.specs.Tests.{or-cases}
+use Rattle.terms.specs.Plan.{within}
+use Rattle.meaning.specs.Plan.{edgeLength, constraintLength, edgeAt, constraintAt, mostRegions, mostSectors, mostEdges, mostArea, mostConstraints, mostLimit, mostWeight, mostMoves}
+use Rattle.meaning.specs.Moves.{moveLength, rowLength, verdictLength}
+use Rattle.refusals.specs.Table.{Row, refused, none, whole, each, offFrom, firstOff, refusal, workloadRight, edgeRight, constraintRight, sectorRight, records, planTable, roomTable, Given, callTable}
+use Rattle.refusals.specs.Passed.{passed-each}
+use Rattle.demands.specs.Tables.{inOrder, Stand}
+use Rattle.demands.specs.Rules.{Each, First, ListPlace, EdgeRules, ConstraintRules, rules}
+
+-- ---- tests and what they say
+
+-- the test for at most
+pub at-most : (x y : ℕ) → leb x y ≡ true ↔ x ≤ y
+at-most x y = (leb-true x y, le-leb x y)
+
+-- the test for below
+below : (x y : ℕ) → ltb x y ≡ true ↔ x < y
+below x y = (ltb-true x y, lt-ltb x y)
+
+-- the test for equal
+pub equal : (x y : ℕ) → eqb x y ≡ true ↔ x ≡ y
+equal x y = (eqb-true x y, eq-eqb x y)
+
+-- a test that passes is true
+passes-true : (t : Bool) → T t → t ≡ true
+passes-true true h = refl
+
+module _ {s t : Bool} {A B : Type 0} (f : s ≡ true ↔ A) (h : t ≡ true ↔ B) where
+  -- two tests that both pass
+  both : s && t ≡ true ↔ A × B
+  both = Iff·trans (and-eq-true-iff s t) (Iff·and f h)
+
+  -- two tests of which one passes
+  either : s || t ≡ true ↔ A ⊎ B
+  either = (λ e. ⊎-elim (λ a. inl (f .0 a)) (λ b. inr (h .0 b)) (or-cases s t e), ⊎-elim (λ a. or-inl s t (f .1 a)) (λ b. or-inr s t (h .1 b)))
+
+-- the test for one of 1..n
+pub one-of : (n x : ℕ) → within 1 x n ≡ true ↔ In n x
+one-of n x = Iff·trans (both (at-most 1 x) (at-most x n)) (λ p. record { low = p .0; high = p .1 }, λ i. (i .low, i .high))
+
+-- the table's test of a list of at most so many whole records
+some-records : (width high : ℕ) (xs : List ℕ) → records width 0 high xs ≡ true ↔ (length xs % width ≡ 0) × (length xs / width ≤ high)
+some-records width high xs =
+    Iff·trans (both (equal (length xs % width) 0) (both (at-most 0 (length xs / width)) (at-most (length xs / width) high)))
+    (λ p. (p .0, p .1 .1), λ p. (p .0, (omega arith, p .1)))
+
+-- the table's test of an edge is its rules
+pub edge-rules : (R : ℕ) (edges : List ℕ) (k : ℕ) → edgeRight R edges k ≡ true ↔ EdgeRules R edges k
+unfolding edgeRight
+edge-rules R edges k =
+    let d = edgeAt edges (k - 1) in
+    let e = edgeAt edges k in
+    let limits = both (both (both (at-most 1 (e .a)) (below (e .a) (e .b))) (at-most (e .b) R)) (one-of mostArea (e .area)) in
+    let after = either (equal k 0) (either (below (d .a) (e .a)) (both (equal (d .a) (e .a)) (below (d .b) (e .b)))) in
+    let test = both limits after in (
+      λ t. let p = test .0 t in record { limits = record { low = p .0 .0 .0 .0; rise = p .0 .0 .0 .1; high = p .0 .0 .1; area = p .0 .1 }; after = p .1 },
+      λ r. test .1 ((((r .limits .low, r .limits .rise), r .limits .high), r .limits .area), r .after),
+    )
+
+-- the table's test of a constraint is its rules
+pub constraint-rules : (constraints : List ℕ) (k : ℕ) → constraintRight constraints k ≡ true ↔ ConstraintRules constraints k
+unfolding constraintRight
+constraint-rules constraints k =
+    let c = constraintAt constraints k in
+    let takes = both (one-of 6 (c .relation)) (either (either (equal (c .kind) 1) (equal (c .kind) 4)) (equal (c .relation) 1)) in
+    let test = both (both (both (one-of 4 (c .kind)) takes) (at-most (c .limit) mostLimit)) (one-of mostWeight (c .weight)) in (
+      λ t. let p = test .0 t in record { limits = record { kind = p .0 .0 .0; relation = p .0 .0 .1 .0; limit = p .0 .1; weight = p .1 }; takes = p .0 .0 .1 .1 },
+      λ r. test .1 (((r .limits .kind, (r .limits .relation, r .takes)), r .limits .limit), r .limits .weight),
+    )
+
+-- ---- rows and what they say
+
+-- a row on a whole passes exactly when its test says so
+whole-passes : (code : ℕ) {t : Bool} {A : Type 0} → t ≡ true ↔ A → whole code t .given ≡ false ↔ A
+whole-passes code {t} f = (λ e. f .0 (not-false t e), λ a. rw (f .1 a))
+
+module _ (right : ℕ → Bool) where
+  -- where each of the items k, k + 1, .., n of them, is right, none is off
+  none-off : (k n : ℕ) → ((j : ℕ) → k ≤ j → j < k + n → right j ≡ true) → offFrom k n right ≡ 0
+  unfolding offFrom
+  none-off k zero h = refl
+  none-off k (suc n) h = rw (h k (omega arith) (omega arith)) (none-off (suc k) n (λ j lo hi. h j (omega arith) (omega arith)))
+
+  -- place is that of the first of the items k, k + 1, .., n of them, that is off
+  record Off (k n place : ℕ) : Type 0 where
+    low : k < place
+    high : place ≤ k + n
+    off : right (place - 1) ≡ false
+    before : (j : ℕ) → k ≤ j → j < place - 1 → right j ≡ true
+
+  -- where some item is off, the first is found
+  some-off : (k n : ℕ) → offFrom k n right ≢ 0 → Off k n (offFrom k n right)
+  unfolding offFrom
+  some-off k zero ne = absurd (ne refl)
+  some-off k (suc n) ne = go (right k) refl (some-off (suc k) n)
+    where
+      go : (t : Bool) → right k ≡ t → (offFrom (suc k) n right ≢ 0 → Off (suc k) n (offFrom (suc k) n right)) → Off k (suc n) (offFrom k (suc n) right)
+      go true e f =
+          let r = f (λ z. ne (rw e z)) in
+          rw e (record { low = omega (arith, r .low); high = omega (arith, r .high); off = r .off; before = λ j lo hi. earlier j lo hi (ℕ-discrete j k) r })
+        where
+          earlier : (j : ℕ) → k ≤ j → j < offFrom (suc k) n right - 1 → Dec (j ≡ k) → Off (suc k) n (offFrom (suc k) n right) → right j ≡ true
+          earlier j lo hi (yes z) r = rw z e
+          earlier j lo hi (no m) r = r .before j (omega arith) hi
+      go false e f = rw e (record { low = omega arith; high = omega arith; off = rw sub-one e; before = λ j lo hi. absurd (omega arith) })
+
+  module _ (code n : ℕ) {A : ℕ → Type 0} (f : (k : ℕ) → right k ≡ true ↔ A k) where
+    -- a row on each item passes exactly when each is right
+    each-passes : each code n right .given ≡ false ↔ Each n A
+    each-passes = (
+      λ e k h. f k .0 (passes-true (right k) (passed-each right n e k h)),
+      λ a. rw (none-off 0 n (λ j lo hi. f j .1 (a j (omega arith)))),
+    )
+
+    -- the first item that is off is the first that is not right
+    off-first : (Each n A → ⊥) → First n A (firstOff n right)
+    off-first some =
+        let r = some-off 0 n (λ e. some (each-passes .0 (rw e))) in
+        record {
+          named = record { low = omega (arith, r .low); high = omega (arith, r .high) };
+          off = λ a. true≢false (sym (f _ .1 a) ∙ r .off);
+          before = λ k h. f k .0 (r .before k (omega arith) h);
+        }
+
+-- ---- places
+
+-- one row on a whole names no place
+pub no-place : (r : Row) → r .place ≡ 0 → refusal (r ∷ []) .place ≡ 0
+unfolding refusal
+no-place r e = go (r .given)
+  where
+    go : (t : Bool) → cond t (refused (r .code) (r .place)) none .place ≡ 0
+    go true = e
+    go false = refl
+
+module _ (code n : ℕ) (right : ℕ → Bool) {A : ℕ → Type 0} (f : (k : ℕ) → right k ≡ true ↔ A k) where
+  -- a row on each item names the first that is not right
+  pub each-place : (Each n A → ⊥) → First n A (refusal (each code n right ∷ []) .place)
+  unfolding refusal
+  each-place some = rw (go (ℕ-discrete (firstOff n right) 0)) (off-first right code n f some)
+    where
+      go : Dec (firstOff n right ≡ 0) → refusal (each code n right ∷ []) .place ≡ firstOff n right
+      go (yes e) = rw e
+      go (no ne) = rw (ne-eqb (firstOff n right) 0 ne)
+
+  -- a row on the whole list and one on each item: no place where the whole is wrong, else the first item that is not right
+  pub list-place : (t : Bool) {Long : Type 0} → t ≡ true ↔ Long → (Long × Each n A → ⊥) → ListPlace Long n A (refusal (whole code t ∷ each code n right ∷ []) .place)
+  unfolding refusal
+  list-place true l some = inr (l .0 refl, each-place (λ a. some (l .0 refl, a)))
+  list-place false l some = inl (λ a. true≢false (sym (l .1 a)), refl)
+
+-- ---- the table and the rules
+
+-- a table cut into groups of these lengths
+abbrev groups : List ℕ → List Row → List (List Row)
+groups [] rs = []
+groups (n ∷ ns) rs = take n rs ∷ groups ns (drop n rs)
+
+-- the call's table by its codes: of codes 3 and 8 there are two rows, one on the whole list and one on each item
+abbrev pub callGroups : Given → List (List Row)
+callGroups g = groups (1 ∷ 1 ∷ 2 ∷ 1 ∷ 1 ∷ 1 ∷ 1 ∷ 2 ∷ 1 ∷ 1 ∷ 1 ∷ 1 ∷ []) (callTable g)
+
+-- the groups have all rows of the table, in its order
+pub groups-all : (g : Given) → inOrder (callGroups g) ≡ callTable g
+unfolding callTable planTable roomTable
+groups-all g = refl
+
+-- a group of one row passes exactly when the row does
+alone : {A B : Type 0} → A ↔ B → (A × Unit {0}) ↔ B
+alone f = (λ p. f .0 (p .0), λ b. (f .1 b, tt))
+
+-- the group of the next code has that code and says what its rule says, and so do those after it
+infixr 2 _then_
+_then_ : {A B : Type 0} → A → B → (Unit {0} × A) × B
+a then b = ((tt, a), b)
+
+-- each code's rows have that code, and pass exactly when its rule holds
+pub groups-stand : (g : Given) → Stand (callGroups g) (rules g)
+unfolding callTable planTable roomTable
+groups-stand g =
+    alone (whole-passes 1 (one-of mostRegions (g .R)))
+    then alone (whole-passes 2 (one-of mostSectors (g .S)))
+    then Iff·and (whole-passes 3 (equal (length (g .workloads)) (g .R))) (alone (each-passes (workloadRight (g .workloads)) 3 (length (g .workloads)) (λ k. at-most _ _)))
+    then alone (whole-passes 4 (some-records edgeLength mostEdges (g .edges)))
+    then alone (each-passes (edgeRight (g .R) (g .edges)) 5 (length (g .edges) / edgeLength) (edge-rules (g .R) (g .edges)))
+    then alone (whole-passes 6 (both (equal (length (g .constraints) % constraintLength) 0) (one-of mostConstraints (length (g .constraints) / constraintLength))))
+    then alone (each-passes (constraintRight (g .constraints)) 7 (length (g .constraints) / constraintLength) (constraint-rules (g .constraints)))
+    then Iff·and (whole-passes 8 (equal (length (g .colouring)) (g .R))) (alone (each-passes (sectorRight (g .S) (g .colouring)) 8 (length (g .colouring)) (λ k. one-of (g .S) _)))
+    then alone (whole-passes 9 (some-records moveLength mostMoves (g .moves)))
+    then alone (whole-passes 10 (at-most (rowLength * (length (g .moves) / moveLength)) (g .rows)))
+    then alone (whole-passes 11 (at-most (verdictLength * (length (g .constraints) / constraintLength)) (g .verdicts)))
+    then alone (whole-passes 12 (at-most (g .R + 2 * g .S + 1) (g .work)))
+    then tt

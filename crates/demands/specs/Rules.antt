@@ -1,0 +1,110 @@
+-- Document 01's table of codes, turned round: the rule that each code stands for, and the place that it names.
+-- Assumes nothing.
+use Prim.Native.Nat.{ℕ, _+_, _-_, _*_, _/_, _%_, _≤_, _<_}
+use mathlib.Core.Path.{_≡_}
+use mathlib.Core.Logic.{_⊎_}
+use mathlib.Core.List.{List, [], _∷_}
+use lib.ListN.{length, getD}
+use Rattle.lists.specs.Sums.{In}
+use Rattle.meaning.specs.Plan.{Edge, EdgeLimits, ConstraintLimits, edgeLength, constraintLength, edgeAt, constraintAt, mostRegions, mostSectors, mostWorkload, mostEdges, mostConstraints, mostMoves}
+use Rattle.meaning.specs.Moves.{moveLength, rowLength, verdictLength}
+use Rattle.refusals.specs.Table.{Given}
+use Rattle.demands.specs.Tables.{Rule}
+
+-- edge e comes after edge d: strictly increasing by a, then b
+abbrev pub After : Edge → Edge → Type 0
+After d e = (d .a < e .a) ⊎ ((d .a ≡ e .a) × (d .b < e .b))
+
+-- edge k, from 0, keeps to its rules, and comes after the edge before it
+pub record EdgeRules (R : ℕ) (edges : List ℕ) (k : ℕ) : Type 0 where
+  pub limits : EdgeLimits R (edgeAt edges k)
+  pub after : (k ≡ 0) ⊎ After (edgeAt edges (k - 1)) (edgeAt edges k)
+
+-- constraint k, from 0, keeps to its limits, and its kind takes its relation: kinds 1 and 4 any, kinds 2 and 3 relation 1
+pub record ConstraintRules (constraints : List ℕ) (k : ℕ) : Type 0 where
+  pub limits : ConstraintLimits (constraintAt constraints k)
+  pub takes : ((constraintAt constraints k .kind ≡ 1) ⊎ (constraintAt constraints k .kind ≡ 4)) ⊎ (constraintAt constraints k .relation ≡ 1)
+
+-- each of n items, from 0, is right
+abbrev pub Each : ℕ → (ℕ → Type 0) → Type 0
+Each n Right = (k : ℕ) → k < n → Right k
+
+-- place is that of the first of n items, from 1, that is not right
+pub record First (n : ℕ) (Right : ℕ → Type 0) (place : ℕ) : Type 0 where
+  pub named : In n place
+  pub off : Right (place - 1) → ⊥
+  pub before : Each (place - 1) Right
+
+-- a list of the wrong length names no place; one of the right length names the first item that is not right
+abbrev pub ListPlace : Type 0 → ℕ → (ℕ → Type 0) → ℕ → Type 0
+ListPlace Long n Right place = ((Long → ⊥) × (place ≡ 0)) ⊎ (Long × First n Right place)
+
+-- code 1: R is within its limits
+abbrev pub RegionsFit : Given → Type 0
+RegionsFit g = In mostRegions (g .R)
+
+-- code 2: S is within its limits
+abbrev pub SectorsFit : Given → Type 0
+SectorsFit g = In mostSectors (g .S)
+
+-- code 3: the workload list is R long, and no workload is too large
+abbrev pub WorkloadsFit : Given → Type 0
+WorkloadsFit g = (length (g .workloads) ≡ g .R) × Each (length (g .workloads)) (λ k. getD (g .workloads) k 0 ≤ mostWorkload)
+
+-- code 4: the edge numbers are a multiple of three, and there are not over 2,048 edges
+abbrev pub EdgeCountFits : Given → Type 0
+EdgeCountFits g = (length (g .edges) % edgeLength ≡ 0) × (length (g .edges) / edgeLength ≤ mostEdges)
+
+-- code 5: each edge keeps to its rules, and is above the edge before it
+abbrev pub EdgesFit : Given → Type 0
+EdgesFit g = Each (length (g .edges) / edgeLength) (EdgeRules (g .R) (g .edges))
+
+-- code 6: the constraint numbers are a multiple of four, and there are 1..16 constraints
+abbrev pub ConstraintCountFits : Given → Type 0
+ConstraintCountFits g = (length (g .constraints) % constraintLength ≡ 0) × In mostConstraints (length (g .constraints) / constraintLength)
+
+-- code 7: each constraint has a kind of 1..4, a relation that its kind takes, and limit and weight within theirs
+abbrev pub ConstraintsFit : Given → Type 0
+ConstraintsFit g = Each (length (g .constraints) / constraintLength) (ConstraintRules (g .constraints))
+
+-- code 8: the colouring is R long, and each sector is one of 1..S
+abbrev pub ColouringFits : Given → Type 0
+ColouringFits g = (length (g .colouring) ≡ g .R) × Each (length (g .colouring)) (λ k. In (g .S) (getD (g .colouring) k 0))
+
+-- code 9: the move numbers are a multiple of three, and there are not over 4,096 moves
+abbrev pub MovesFit : Given → Type 0
+MovesFit g = (length (g .moves) % moveLength ≡ 0) × (length (g .moves) / moveLength ≤ mostMoves)
+
+-- code 10: there is room for four numbers a move
+abbrev pub RowsFit : Given → Type 0
+RowsFit g = rowLength * (length (g .moves) / moveLength) ≤ g .rows
+
+-- code 11: there is room for two numbers a constraint
+abbrev pub VerdictsFit : Given → Type 0
+VerdictsFit g = verdictLength * (length (g .constraints) / constraintLength) ≤ g .verdicts
+
+-- code 12: the work memory is at least R + 2 S + 1 long
+abbrev pub WorkFits : Given → Type 0
+WorkFits g = g .R + 2 * g .S + 1 ≤ g .work
+
+-- a code and what it asks for
+infix 6 _asks_
+abbrev pub _asks_ : ℕ → Type 0 → Rule
+code asks Holds = record { code = code; Holds = Holds }
+
+-- the codes and their rules, in the order in which they are checked
+abbrev pub rules : Given → List Rule
+rules g =
+    (1 asks RegionsFit g)
+    ∷ (2 asks SectorsFit g)
+    ∷ (3 asks WorkloadsFit g)
+    ∷ (4 asks EdgeCountFits g)
+    ∷ (5 asks EdgesFit g)
+    ∷ (6 asks ConstraintCountFits g)
+    ∷ (7 asks ConstraintsFit g)
+    ∷ (8 asks ColouringFits g)
+    ∷ (9 asks MovesFit g)
+    ∷ (10 asks RowsFit g)
+    ∷ (11 asks VerdictsFit g)
+    ∷ (12 asks WorkFits g)
+    ∷ []
