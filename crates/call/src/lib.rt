@@ -18,6 +18,7 @@ use terms::limits::MOST_EDGES;
 use terms::limits::MOST_REGIONS;
 
 // What a call answers: a refusal's code and place, or code 0 with the total before the moves and after them.
+#[repr(C)]
 pub struct Answer {
     pub code: u64,
     pub place: u64,

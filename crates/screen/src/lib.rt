@@ -1,0 +1,33 @@
+// The calls of the planning screen and of the search, for programs in Rust or C.
+ghost use Rattle.call.specs.Promise.{Promise, input, left};
+use call::Answer;
+
+// Judges a colouring of a plan, takes the moves in turn, and judges the last colouring; a call that is refused answers why and changes nothing.
+#[no_mangle]
+pub extern "C" fn sctr_call(
+    regions: u64,
+    sectors: u64,
+    workloads: &[u64],
+    edges: &[u64],
+    constraints: &[u64],
+    colouring: &mut [u64],
+    moves: &[u64],
+    rows: &mut [i64],
+    verdicts: &mut [u64],
+    work: &mut [u64],
+) -> Answer
+    ensures { λ r. ⌜ Promise (input regions sectors (now (workloads .entry)) (now (edges .entry)) (now (constraints .entry)) (now (colouring .entry)) (now (moves .entry)) (now (rows .entry)) (now (verdicts .entry)) (now (work .entry))) (left r (now (colouring .exit)) (now (rows .exit)) (now (verdicts .exit)) (now (work .exit))) ⌝ }
+{
+    call::judge(
+        regions,
+        sectors,
+        workloads,
+        edges,
+        constraints,
+        colouring,
+        moves,
+        rows,
+        verdicts,
+        work,
+    )
+}

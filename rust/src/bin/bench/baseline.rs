@@ -1,0 +1,376 @@
+//! The baseline: what an expert writes in plain Rust. Neighbours in compressed rows of small numbers, marks with stamps, a queue,
+//! a search that stops as soon as it knows, one running sum for each constraint. It is spared the refusals, the verdicts and the
+//! work memory.
+
+use crate::plans::Plan;
+
+fn distance(relation: u64, x: u64, limit: u64) -> u64 {
+    match relation {
+        1 => x.saturating_sub(limit),
+        2 => (x + 1).saturating_sub(limit),
+        3 => x.abs_diff(limit),
+        4 => (x == limit) as u64,
+        5 => (limit + 1).saturating_sub(x),
+        _ => limit.saturating_sub(x),
+    }
+}
+
+fn excess(n: u32) -> u64 {
+    n.saturating_sub(1) as u64
+}
+
+fn smallest_joined(plan: &Plan, sector_of: &[u8]) -> Vec<u16> {
+    fn root(parent: &mut [u16], mut v: usize) -> usize {
+        while parent[v] as usize != v {
+            parent[v] = parent[parent[v] as usize];
+            v = parent[v] as usize;
+        }
+        v
+    }
+    let mut parent: Vec<u16> = (0..=plan.regions as u16).collect();
+    for e in plan.edges.chunks(3) {
+        let (a, b) = (e[0] as usize, e[1] as usize);
+        if sector_of[a] == sector_of[b] {
+            let (x, y) = (root(&mut parent, a), root(&mut parent, b));
+            parent[x.max(y)] = x.min(y) as u16;
+        }
+    }
+    (0..parent.len()).map(|v| root(&mut parent, v) as u16).collect()
+}
+
+/// All that is kept of a colouring between two moves; regions and sectors are numbered from 1.
+struct Engine<'a> {
+    plan: &'a Plan,
+    start: Vec<u32>,
+    near: Vec<u16>,
+    area: Vec<u32>,
+    sector_of: Vec<u8>,
+    label: Vec<u16>,
+    components: Vec<u32>,
+    workload: Vec<u64>,
+    whole: u64,
+    all: u64,
+    excess: u64,
+    border: u64,
+    deviation: u64,
+    bounded: [u64; 16],
+    total: u64,
+    mark: Vec<u32>,
+    stamp: u32,
+    queue: Vec<u16>,
+}
+
+impl<'a> Engine<'a> {
+    fn new(plan: &'a Plan, colouring: &[u64]) -> Self {
+        let (regions, sectors) = (plan.regions as usize, plan.sectors as usize);
+        let mut start = vec![0u32; regions + 2];
+        for e in plan.edges.chunks(3) {
+            start[e[0] as usize + 1] += 1;
+            start[e[1] as usize + 1] += 1;
+        }
+        for v in 1..regions + 2 {
+            start[v] += start[v - 1];
+        }
+        let mut end = start.clone();
+        let mut near = vec![0; 2 * plan.edges.len() / 3];
+        let mut area = vec![0; near.len()];
+        for e in plan.edges.chunks(3) {
+            for (a, b) in [(e[0], e[1]), (e[1], e[0])] {
+                let cell = end[a as usize] as usize;
+                end[a as usize] += 1;
+                near[cell] = b as u16;
+                area[cell] = e[2] as u32;
+            }
+        }
+        let sector_of: Vec<u8> = std::iter::once(0).chain(colouring.iter().map(|&c| c as u8)).collect();
+        let label = smallest_joined(plan, &sector_of);
+        let mut engine = Engine {
+            plan,
+            start,
+            near,
+            area,
+            label,
+            components: vec![0; sectors + 1],
+            workload: vec![0; sectors + 1],
+            whole: plan.workloads.iter().sum(),
+            all: 0,
+            excess: 0,
+            border: 0,
+            deviation: 0,
+            bounded: [0; 16],
+            total: 0,
+            mark: vec![0; regions + 1],
+            stamp: 0,
+            queue: vec![0; regions + 1],
+            sector_of,
+        };
+        engine.add_up();
+        engine
+    }
+
+    fn add_up(&mut self) {
+        let plan = self.plan;
+        for v in 1..=plan.regions as usize {
+            let c = self.sector_of[v] as usize;
+            self.workload[c] += plan.workloads[v - 1];
+            self.components[c] += (self.label[v] as usize == v) as u32;
+        }
+        for e in plan.edges.chunks(3) {
+            if self.sector_of[e[0] as usize] != self.sector_of[e[1] as usize] {
+                self.border += e[2];
+            }
+        }
+        self.all = self.components.iter().map(|&n| n as u64).sum();
+        self.excess = self.components.iter().map(|&n| excess(n)).sum();
+        self.deviation = self.workload[1..].iter().map(|&x| (plan.sectors * x).abs_diff(self.whole)).sum();
+        for (k, q) in plan.constraints.chunks(4).enumerate() {
+            if q[0] == 4 {
+                self.bounded[k] = self.workload[1..].iter().map(|&x| distance(q[1], x, q[2])).sum();
+            }
+        }
+        self.total = self.total_of(self.all, self.excess, self.border, self.deviation, &self.bounded);
+    }
+
+    fn total_of(&self, all: u64, excess: u64, border: u64, deviation: u64, bounded: &[u64; 16]) -> u64 {
+        let mut total = 0;
+        for (k, q) in self.plan.constraints.chunks(4).enumerate() {
+            let violation = match q[0] {
+                1 => excess + (distance(q[1], all, q[2]) != 0) as u64,
+                2 => border.saturating_sub(q[2]),
+                3 => deviation.saturating_sub(q[2]),
+                _ => bounded[k],
+            };
+            total += q[3] * violation;
+        }
+        total
+    }
+
+    fn row(&self, v: usize) -> std::ops::Range<usize> {
+        self.start[v] as usize..self.start[v + 1] as usize
+    }
+
+    /// The pieces that v's component falls into without v; where they are made, each is labelled and the new labels are counted.
+    fn pieces(&mut self, v: usize, make: bool, relabelled: &mut i64) -> u32 {
+        let c = self.sector_of[v];
+        let mut unreached = 0;
+        for i in self.row(v) {
+            unreached += (self.sector_of[self.near[i] as usize] == c) as u32;
+        }
+        if unreached <= 1 && !make {
+            return unreached;
+        }
+        self.stamp += 2;
+        let (reached, wanted) = (self.stamp - 1, self.stamp);
+        self.mark[v] = reached;
+        for i in self.row(v) {
+            let u = self.near[i] as usize;
+            if self.sector_of[u] == c {
+                self.mark[u] = wanted;
+            }
+        }
+        let mut n = 0;
+        for i in self.row(v) {
+            let u = self.near[i] as usize;
+            if self.sector_of[u] != c || self.mark[u] == reached {
+                continue;
+            }
+            n += 1;
+            let (mut head, mut end) = (0, 1);
+            self.queue[0] = u as u16;
+            self.mark[u] = reached;
+            unreached -= 1;
+            if unreached == 0 && !make {
+                break;
+            }
+            let mut smallest = u;
+            while head < end {
+                let y = self.queue[head] as usize;
+                head += 1;
+                smallest = smallest.min(y);
+                for j in self.row(y) {
+                    let z = self.near[j] as usize;
+                    if self.sector_of[z] == c && self.mark[z] != reached {
+                        if self.mark[z] == wanted {
+                            unreached -= 1;
+                            if unreached == 0 && !make {
+                                return n;
+                            }
+                        }
+                        self.mark[z] = reached;
+                        self.queue[end] = z as u16;
+                        end += 1;
+                    }
+                }
+            }
+            if make {
+                for k in 0..end {
+                    let y = self.queue[k] as usize;
+                    *relabelled += (self.label[y] != smallest as u16) as i64;
+                    self.label[y] = smallest as u16;
+                }
+            }
+        }
+        n
+    }
+
+    /// The components of sector d that share a face with v.
+    fn touching(&mut self, v: usize, d: u8) -> u32 {
+        self.stamp += 1;
+        let mut n = 0;
+        for i in self.row(v) {
+            let u = self.near[i] as usize;
+            if self.sector_of[u] == d {
+                let label = self.label[u] as usize;
+                if self.mark[label] != self.stamp {
+                    self.mark[label] = self.stamp;
+                    n += 1;
+                }
+            }
+        }
+        n
+    }
+
+    /// Gives v to sector d and labels the component that it comes to; the new labels are counted.
+    fn come(&mut self, v: usize, d: u8, left: u16) -> i64 {
+        self.sector_of[v] = d;
+        let mut smallest = v as u16;
+        for i in self.row(v) {
+            let u = self.near[i] as usize;
+            if self.sector_of[u] == d {
+                smallest = smallest.min(self.label[u]);
+            }
+        }
+        self.stamp += 1;
+        self.mark[v] = self.stamp;
+        self.queue[0] = v as u16;
+        let (mut head, mut end) = (0, 1);
+        while head < end {
+            let y = self.queue[head] as usize;
+            head += 1;
+            for j in self.row(y) {
+                let z = self.near[j] as usize;
+                if self.sector_of[z] == d && self.mark[z] != self.stamp && self.label[z] != smallest {
+                    self.mark[z] = self.stamp;
+                    self.queue[end] = z as u16;
+                    end += 1;
+                }
+            }
+        }
+        for k in 1..end {
+            self.label[self.queue[k] as usize] = smallest;
+        }
+        self.label[v] = smallest;
+        end as i64 - 1 + (smallest != left) as i64
+    }
+
+    /// The total after giving v to sector d and, where that is made, how many labels are new.
+    fn recolour(&mut self, v: usize, d: u8, make: bool) -> (u64, i64) {
+        let c = self.sector_of[v];
+        if c == d {
+            return (self.total, 0);
+        }
+        let (own, other) = (c as usize, d as usize);
+        let left = self.label[v];
+        let mut relabelled = 0;
+        let pieces = self.pieces(v, make, &mut relabelled);
+        let touching = self.touching(v, d);
+        let (mut here, mut there) = (0, 0);
+        for i in self.row(v) {
+            let sector = self.sector_of[self.near[i] as usize];
+            if sector == d {
+                there += self.area[i] as u64;
+            } else if sector == c {
+                here += self.area[i] as u64;
+            }
+        }
+        let border = self.border + here - there;
+        let (n, m) = (self.components[own], self.components[other]);
+        let (n_after, m_after) = (n + pieces - 1, m + 1 - touching);
+        let all = self.all + n_after as u64 + m_after as u64 - n as u64 - m as u64;
+        let over = self.excess + excess(n_after) + excess(m_after) - excess(n) - excess(m);
+        let (x, y) = (self.workload[own], self.workload[other]);
+        let workload = self.plan.workloads[v - 1];
+        let (x_after, y_after) = (x - workload, y + workload);
+        let off = |x: u64| (self.plan.sectors * x).abs_diff(self.whole);
+        let deviation = self.deviation + off(x_after) + off(y_after) - off(x) - off(y);
+        let mut bounded = self.bounded;
+        for (k, q) in self.plan.constraints.chunks(4).enumerate() {
+            if q[0] == 4 {
+                let d = |x| distance(q[1], x, q[2]);
+                bounded[k] = bounded[k] + d(x_after) + d(y_after) - d(x) - d(y);
+            }
+        }
+        let total = self.total_of(all, over, border, deviation, &bounded);
+        if make {
+            self.components[own] = n_after;
+            self.components[other] = m_after;
+            self.workload[own] = x_after;
+            self.workload[other] = y_after;
+            (self.all, self.excess, self.border, self.deviation) = (all, over, border, deviation);
+            self.bounded = bounded;
+            self.total = total;
+            relabelled += self.come(v, d, left);
+        }
+        (total, relabelled)
+    }
+
+    fn region_violation(&self, v: usize) -> u64 {
+        let c = self.sector_of[v];
+        let x = self.workload[c as usize];
+        let mut border = 0;
+        for i in self.row(v) {
+            if self.sector_of[self.near[i] as usize] != c {
+                border += self.area[i] as u64;
+            }
+        }
+        let mut sum = 0;
+        for q in self.plan.constraints.chunks(4) {
+            let part = match q[0] {
+                1 => excess(self.components[c as usize]),
+                2 => border,
+                3 => (self.plan.sectors * x).abs_diff(self.whole),
+                _ => distance(q[1], x, q[2]),
+            };
+            sum += q[3] * part;
+        }
+        sum
+    }
+
+    fn step(&mut self, kind: u64, v: usize, second: u64) -> [i64; 4] {
+        let before = self.total;
+        if kind <= 2 {
+            let (total, n) = self.recolour(v, second as u8, kind == 2);
+            return [0, total as i64 - before as i64, self.total as i64, if kind == 2 { n } else { 0 }];
+        }
+        if kind == 5 {
+            return [0, self.region_violation(v) as i64, before as i64, 0];
+        }
+        let w = second as usize;
+        let (c, d) = (self.sector_of[v], self.sector_of[w]);
+        if c == d {
+            return [0, 0, before as i64, 0];
+        }
+        if kind == 4 {
+            let labels = self.label.clone();
+            self.recolour(v, d, true);
+            let (total, _) = self.recolour(w, c, true);
+            let n = labels.iter().zip(&self.label).filter(|(a, b)| a != b).count();
+            return [0, total as i64 - before as i64, total as i64, n as i64];
+        }
+        self.recolour(v, d, true);
+        let (total, _) = self.recolour(w, c, false);
+        self.recolour(v, c, true);
+        [0, total as i64 - before as i64, before as i64, 0]
+    }
+}
+
+/// Takes the moves in turn, writes their rows, and leaves the last colouring.
+pub fn call(plan: &Plan, colouring: &mut [u64], moves: &[u64], rows: &mut [i64]) {
+    let mut engine = Engine::new(plan, colouring);
+    for (m, row) in moves.chunks(3).zip(rows.chunks_mut(4)) {
+        row.copy_from_slice(&engine.step(m[0], m[1] as usize, m[2]));
+    }
+    for (c, &sector) in colouring.iter_mut().zip(&engine.sector_of[1..]) {
+        *c = sector as u64;
+    }
+}

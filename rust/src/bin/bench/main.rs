@@ -1,0 +1,121 @@
+//! Nanoseconds a move of the proved library, of the baseline and of the library's own method in plain Rust, on the same plans and
+//! lists, one after the other in one run. The rows of all three are compared.
+
+mod baseline;
+mod plans;
+mod same_method;
+
+use plans::{Plan, Random};
+use std::time::Instant;
+
+const LIST: usize = 4096;
+const RUNS: usize = 40;
+
+const LISTS: [(&str, &[u64]); 6] = [
+    ("probes", &[1]),
+    ("made moves", &[2]),
+    ("exchange probes", &[3]),
+    ("exchanges", &[4]),
+    ("mix", &[1, 2, 3, 4]),
+    ("questions", &[5]),
+];
+
+/// What a call leaves.
+#[derive(PartialEq)]
+struct Left {
+    colouring: Vec<u64>,
+    rows: Vec<i64>,
+}
+
+fn empty(plan: &Plan, moves: &[u64]) -> Left {
+    Left { colouring: plan.colouring.clone(), rows: vec![0; moves.len() / 3 * 4] }
+}
+
+fn baseline(plan: &Plan, moves: &[u64], left: &mut Left) {
+    baseline::call(plan, &mut left.colouring, moves, &mut left.rows);
+}
+
+fn same_method(plan: &Plan, moves: &[u64], left: &mut Left) {
+    let answer = same_method::call(same_method::Call {
+        regions: plan.regions,
+        sectors: plan.sectors,
+        workloads: &plan.workloads,
+        edges: &plan.edges,
+        constraints: &plan.constraints,
+        colouring: &mut left.colouring,
+        moves,
+        rows: &mut left.rows,
+        verdicts: &mut [0; 32],
+        work: &mut [0; 641],
+    });
+    assert!(answer.is_ok());
+}
+
+fn proved(plan: &Plan, moves: &[u64], left: &mut Left) {
+    let answer = qirfadhun::call(
+        plan.regions,
+        plan.sectors,
+        &plan.workloads,
+        &plan.edges,
+        &plan.constraints,
+        &mut left.colouring,
+        moves,
+        &mut left.rows,
+        &mut [0; 32],
+        &mut [0; 641],
+    );
+    assert!(answer.is_ok());
+}
+
+/// The shortest time, in nanoseconds, of each of the three on one list.
+fn measure(plan: &Plan, moves: &[u64]) -> [f64; 3] {
+    let calls = [baseline, same_method, proved];
+    let mut best = [f64::MAX; 3];
+    for _ in 0..RUNS {
+        let lefts: Vec<Left> = (calls.iter().zip(&mut best))
+            .map(|(call, best)| {
+                let mut left = empty(plan, moves);
+                let start = Instant::now();
+                call(plan, moves, &mut left);
+                *best = best.min(start.elapsed().as_nanos() as f64);
+                left
+            })
+            .collect();
+        assert!(lefts.iter().all(|l| *l == lefts[2]), "the three differ");
+    }
+    best
+}
+
+fn print(name: &str, unit: &str, times: [f64; 3], moves: usize) {
+    let [baseline, same, proved] = times.map(|t| t / moves.max(1) as f64);
+    println!(
+        "| {name} | {baseline:.0} | {same:.0} | {proved:.0} {unit} | {:.2} | {:.2} |",
+        proved / baseline,
+        proved / same
+    );
+}
+
+fn main() {
+    let mut random = Random(88172645463325252);
+    println!("| 512 regions, 16 constraints | baseline | same method | proved | to baseline | to same method |");
+    println!("|---|---|---|---|---|---|");
+    for sectors in [64, 8, 2] {
+        let plan = plans::grid(&mut random, 16, 32, sectors);
+        for (name, kinds) in LISTS {
+            let moves = plans::moves(&mut random, &plan, kinds, LIST);
+            print(&format!("{sectors} sectors, {name}"), "ns a move", measure(&plan, &moves), LIST);
+        }
+        print(&format!("{sectors} sectors, empty list"), "ns a call", measure(&plan, &[]), 0);
+    }
+    for (height, width, sectors) in [(8, 16, 16), (16, 32, 64)] {
+        let plan = plans::grid(&mut random, height, width, sectors);
+        let moves = plans::moves(&mut random, &plan, &[1], LIST);
+        let empty = measure(&plan, &[]);
+        let mut times = measure(&plan, &moves);
+        for (time, empty) in times.iter_mut().zip(empty) {
+            *time -= empty;
+        }
+        let name = format!("{} regions in {sectors} sectors, probes without the call's start", height * width);
+        print(&name, "ns a move", times, LIST);
+    }
+}

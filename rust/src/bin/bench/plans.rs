@@ -1,0 +1,113 @@
+//! What is measured on: grids of regions numbered at random, with sectors grown from seeds, and moves as a search proposes them.
+
+/// A plan and a colouring of it, as the call takes them.
+pub struct Plan {
+    pub regions: u64,
+    pub sectors: u64,
+    pub workloads: Vec<u64>,
+    pub edges: Vec<u64>,
+    pub constraints: Vec<u64>,
+    pub colouring: Vec<u64>,
+}
+
+impl Plan {
+    /// The ends of the edges, as indices.
+    fn ends(&self) -> impl Iterator<Item = (usize, usize)> + '_ {
+        self.edges.chunks(3).map(|e| (e[0] as usize - 1, e[1] as usize - 1))
+    }
+}
+
+/// Random numbers that are the same in every run.
+pub struct Random(pub u64);
+
+impl Random {
+    pub fn below(&mut self, n: u64) -> u64 {
+        self.0 ^= self.0 << 13;
+        self.0 ^= self.0 >> 7;
+        self.0 ^= self.0 << 17;
+        self.0 % n
+    }
+}
+
+/// A grid with diagonals: `height` times `width` regions, and 16 constraints of all kinds.
+pub fn grid(random: &mut Random, height: usize, width: usize, sectors: u64) -> Plan {
+    let regions = height * width;
+    let mut number: Vec<u64> = (1..=regions as u64).collect();
+    for i in (1..regions).rev() {
+        number.swap(i, random.below(i as u64 + 1) as usize);
+    }
+    let mut edges = vec![];
+    for (i, j) in (0..height).flat_map(|i| (0..width).map(move |j| (i, j))) {
+        for (down, right) in [(0, 1), (1, 0), (1, 1)] {
+            if i + down < height && j + right < width {
+                let (a, b) = (number[i * width + j], number[(i + down) * width + j + right]);
+                edges.push([a.min(b), a.max(b), 1 + random.below(1_000_000)]);
+            }
+        }
+    }
+    edges.sort();
+    let mut plan = Plan {
+        regions: regions as u64,
+        sectors,
+        workloads: (0..regions).map(|_| random.below(1_000_001)).collect(),
+        edges: edges.concat(),
+        constraints: (0..16).flat_map(|k| constraint(k, sectors)).collect(),
+        colouring: vec![0; regions],
+    };
+    grow_sectors(random, &mut plan);
+    plan
+}
+
+fn constraint(k: u64, sectors: u64) -> [u64; 4] {
+    match k % 4 {
+        0 => [1, 3, sectors, 1000],
+        1 => [2, 1, 1000, 1],
+        2 => [3, 1, 40, 2],
+        _ => [4, 1 + k / 4 % 6, 5_000_000, 3],
+    }
+}
+
+/// Each sector starts from a region of its own and takes in neighbours that have none.
+fn grow_sectors(random: &mut Random, plan: &mut Plan) {
+    let ends: Vec<_> = plan.ends().collect();
+    let sector_of = &mut plan.colouring;
+    for sector in 1..=plan.sectors {
+        let seed = loop {
+            let region = random.below(plan.regions) as usize;
+            if sector_of[region] == 0 {
+                break region;
+            }
+        };
+        sector_of[seed] = sector;
+    }
+    while sector_of.contains(&0) {
+        for &(a, b) in &ends {
+            if sector_of[a] == 0 {
+                sector_of[a] = sector_of[b];
+            } else if sector_of[b] == 0 {
+                sector_of[b] = sector_of[a];
+            }
+        }
+    }
+}
+
+/// A list of `n` moves of the kinds given, in no order: a region at an edge is given to its neighbour's sector or to any, or exchanged
+/// with a neighbour of another sector.
+pub fn moves(random: &mut Random, plan: &Plan, kinds: &[u64], n: usize) -> Vec<u64> {
+    let ends: Vec<_> = plan.ends().collect();
+    let borders: Vec<_> = plan.ends().filter(|&(a, b)| plan.colouring[a] != plan.colouring[b]).collect();
+    let mut list = vec![];
+    for _ in 0..n {
+        let kind = kinds[random.below(kinds.len() as u64) as usize];
+        let from = if kind == 3 || kind == 4 { &borders } else { &ends };
+        let (a, b) = from[random.below(from.len() as u64) as usize];
+        let second = match kind {
+            1 | 2 if random.below(2) == 0 => plan.colouring[b],
+            1 | 2 => 1 + random.below(plan.sectors),
+            3 | 4 => b as u64 + 1,
+            _ => 0,
+        };
+        list.extend([kind, a as u64 + 1, second]);
+    }
+    list
+}
