@@ -1,0 +1,15 @@
+pub mod Fletcher
+pub mod Same
+pub mod Block
+pub mod BlockLaws
+pub mod Section
+pub mod SectionLaws
+pub mod Sheet
+pub mod SheetLaws
+pub mod Layout
+pub mod InTurn
+pub mod Scan
+pub mod Filling
+pub mod Whole
+pub mod SectionRead
+pub mod SectionWritten

@@ -1,0 +1,54 @@
+// The payloads of a sheet's blocks, and the numbers in them.
+ghost use mathlib.Core.Path.{_≡_};
+ghost use Prim.Native.Nat.{_+_, _*_, _/_, _≤_};
+ghost use lib.ListN.{length, drop};
+ghost use Rattle.packing.specs.Put.{put};
+ghost use Rattle.packing.specs.Numbers.{unpack, rep};
+ghost use Rattle.blocks.specs.Block.{blockLength, mostPayload, payloadOf};
+ghost use Rattle.blocks.specs.Section.{blocksOf, sectionDues};
+ghost use Rattle.blocks.specs.Sheet.{blockAt, streamFrom};
+ghost use Rattle.blocks.specs.Whole.{Whole};
+use crate::BLOCK_LENGTH;
+use crate::HEADER_LENGTH;
+use crate::Section;
+use crate::least;
+use packing::read_records;
+
+// The used payload of a block, as that part of the sheet.
+pub fn payload(sheet: &[u8], number: usize, used: usize) -> &[u8]
+    requires { ⌜ (blockLength * number + blockLength ≤ length (now sheet)) × (used ≤ mostPayload) ⌝ }
+    ensures { λ r. ⌜ now r ≡ payloadOf used (blockAt (now (sheet .entry)) number) ⌝ }
+{
+    let at = BLOCK_LENGTH * number + HEADER_LENGTH;
+    let end = at + used;
+    &sheet[at..end]
+}
+
+// Puts the numbers of the section that starts at block `first`, in records of `stride` bytes, down in `out` from `at` on.
+pub fn read_section(
+    sheet: &[u8],
+    first: usize,
+    section: Section,
+    widths: &[u8],
+    stride: usize,
+    out: &mut [u64],
+    at: usize,
+)
+    requires { ⌜ Whole section (now widths) stride ⌝ }
+    requires { ⌜ blockLength * (first + blocksOf section) ≤ length (now sheet) ⌝ }
+    requires { ⌜ at + section .bytes / stride * length (now widths) ≤ length (now out) ⌝ }
+    ensures { λ _. ⌜ now (out .exit) ≡ put (now (out .entry)) at (unpack (rep (section .bytes / stride) (now (widths .entry))) (streamFrom (sectionDues section) (drop (blockLength * first) (now (sheet .entry))))) ⌝ }
+{
+    let full = section.size / stride;
+    let mut left = section.bytes / stride;
+    let mut number = first;
+    let mut to = at;
+    while left > 0 {
+        let count = least(full, left);
+        let bytes = payload(sheet, number, count * stride);
+        read_records(bytes, widths, stride, count, out, to);
+        left -= count;
+        number += 1;
+        to += count * widths.len();
+    }
+}

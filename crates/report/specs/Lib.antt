@@ -1,0 +1,4 @@
+pub mod Decimal
+pub mod Placed
+pub mod Text
+pub mod TextLaws

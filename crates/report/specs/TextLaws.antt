@@ -1,0 +1,47 @@
+-- How long the texts are: what a buffer must hold.
+-- Assumes nothing.
+use Prim.Native.Nat.{ℕ, zero, suc, _+_, _*_, _/_, _^_, _≤_, _<_}
+use native.Mathlib.Omega.{arith}
+use mathlib.Core.List.{List}
+use lib.ListN.{length, getD, length-append}
+use Rattle.meaning.specs.Plan.{constraintLength, mostConstraints}
+use Rattle.report.specs.Decimal.{mostDigits, decimal-length}
+use Rattle.report.specs.Text.{space, newline, number, line, lineAt, lines, totalLine, verdictText, refusedText, mostLine, mostText}
+
+-- each number of a list is below 2 ^ 64
+pub record Words (xs : List ℕ) : Type 0 where
+  pub each : (i : ℕ) → getD xs i 0 < 2 ^ 64
+
+-- a number has at most 20 digits, and one byte after it
+number-length : (n after : ℕ) → n < 2 ^ 64 → length (number n after) ≤ mostDigits + 1
+unfolding number
+number-length n after h = rw length-append (omega (arith, decimal-length n h))
+
+-- a line has four numbers
+line-length : (place kind holds violation : ℕ) → place < 2 ^ 64 → kind < 2 ^ 64 → holds < 2 ^ 64 → violation < 2 ^ 64 → length (line place kind holds violation) ≤ mostLine
+unfolding line
+line-length place kind holds violation p k h v =
+    simp length-append
+    (omega (arith, number-length place space p, number-length kind space k, number-length holds space h, number-length violation newline v))
+
+module _ {constraints verdicts : List ℕ} (cs : Words constraints) (vs : Words verdicts) where
+  -- the line of one of few constraints
+  pub line-at-length : (k : ℕ) → k < mostConstraints → length (lineAt constraints verdicts k) ≤ mostLine
+  line-at-length k h = line-length (k + 1) _ _ _ (omega arith) (cs .each _) (vs .each _) (vs .each _)
+
+  -- the lines of the first n constraints, of which there are few
+  pub lines-length : (n : ℕ) → n ≤ mostConstraints → length (lines constraints verdicts n) ≤ mostLine * n
+  unfolding lines
+  lines-length zero h = omega arith
+  lines-length (suc n) h = rw length-append (omega (arith, lines-length n (omega arith), line-at-length n h))
+
+  -- what is printed of the verdicts has room in a buffer of the most bytes
+  pub verdict-length : {total : ℕ} → total < 2 ^ 64 → length constraints / constraintLength ≤ mostConstraints → length (verdictText constraints verdicts total) ≤ mostText
+  unfolding verdictText totalLine
+  verdict-length {total} t few =
+      simp length-append (omega (arith, lines-length _ few, number-length total newline t))
+
+-- and so has what is printed of a refusal
+pub refused-length : (code place : ℕ) → code < 2 ^ 64 → place < 2 ^ 64 → length (refusedText code place) ≤ mostText
+unfolding refusedText
+refused-length code place c p = simp length-append (omega (arith, number-length code space c, number-length place newline p))
