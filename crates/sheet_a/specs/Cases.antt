@@ -10,8 +10,9 @@ use Rattle.meaning.specs.Plan.{Plan, edgesOf, constraintsOf, planOf}
 use Rattle.meaning.specs.Joined.{takeIn, takeAll, labels}
 use Rattle.meaning.specs.Kinds.{ncc, nccAll, load, whole, border, counts, loads, deviation, connected, bounded, byKind, violation, holds, total, leadsTo, borderOf, partOf, regionViolation}
 use Rattle.meaning.specs.Moves.{movesOf, next, delta, differing, relabelled, row, cells, rows, verdict, verdictsOf, verdicts, work}
+use Rattle.blocks.specs.Fletcher.{check}
 
--- ---- the plans
+-- ---- the plans, and a text
 
 -- sheet A: regions, sectors, workloads, edges, constraints
 planA : Plan
@@ -26,6 +27,10 @@ colouringA = 1 ∷ 1 ∷ 1 ∷ 2 ∷ 2 ∷ []
 -- one region of a given workload, 64 sectors, kind 4 with >= 1
 lone : ℕ → Plan
 lone workload = planOf 1 64 (workload ∷ []) [] (4 ∷ 6 ∷ 1 ∷ 1 ∷ [])
+
+-- "abcde" in ASCII
+abcde : List ℕ
+abcde = 97 ∷ 98 ∷ 99 ∷ 100 ∷ 101 ∷ []
 
 -- ---- the table
 
@@ -63,10 +68,11 @@ cases =
     ∷ (numbers (verdicts (lone 0) (1 ∷ [])) is (0 ∷ 64 ∷ []))
     ∷ (numbers (verdicts (lone 1) (1 ∷ [])) is (0 ∷ 63 ∷ []))
     ∷ (numbers (verdicts planA colouringA) is (1 ∷ 0 ∷ 1 ∷ 0 ∷ 1 ∷ 0 ∷ 0 ∷ 5 ∷ []))
+    ∷ (numbers (check abcde) is (240 ∷ 200 ∷ []))
     ∷ (numbers (work planA colouringA) is (1 ∷ 1 ∷ 1 ∷ 4 ∷ 4 ∷ 1 ∷ 1 ∷ 60 ∷ 40 ∷ 2 ∷ []))
     ∷ []
 
 -- every line of the table is as document 01 says
 pub all-right : map (λ c. c .found) cases ≡ map (λ c. numbers (c .due)) cases
-unfolding planA colouringA lone rowsA cases stands distance recolouring exchange question ofRegion moveOf edgesOf constraintsOf takeIn takeAll labels ncc nccAll load whole border counts loads deviation connected bounded byKind violation holds total leadsTo borderOf partOf regionViolation movesOf next delta differing relabelled row cells rows verdict verdictsOf work
+unfolding planA colouringA lone abcde rowsA cases stands distance recolouring exchange question ofRegion moveOf edgesOf constraintsOf takeIn takeAll labels ncc nccAll load whole border counts loads deviation connected bounded byKind violation holds total leadsTo borderOf partOf regionViolation movesOf next delta differing relabelled row cells rows verdict verdictsOf work
 all-right = refl
