@@ -1,0 +1,215 @@
+//! `qirfadhun::call` compared with the reference: code, place, totals, and all memory in and around what is lent.
+
+mod calls;
+mod canary;
+mod cases;
+mod library;
+mod plans;
+mod reference;
+
+use calls::{by_reference, compare, Answer, Call, Memory};
+use cases::{all_cases, random_cases, shrink, Case, Code};
+use plans::{break_list, damaged, largest_plan, moves, plan_of, sheet_a, Damage, Numbers, Random, PLAN_DAMAGES};
+use reference::*;
+
+#[test]
+fn random_calls() {
+    random_cases("random calls", 40_000, |random| {
+        let mut call = Call::random(random);
+        for room in [&mut call.rows, &mut call.verdicts, &mut call.work] {
+            *room += random.pick(&[0, 0, 1, 7]);
+        }
+        call
+    });
+}
+
+#[test]
+fn random_damaged_calls() {
+    random_cases("damaged calls", 20_000, |random| {
+        let mut call = Call::random(random);
+        for _ in 0..random.between(1, 3) {
+            break_one(random, &mut call);
+        }
+        call
+    });
+}
+
+fn break_one(random: &mut Random, call: &mut Call) {
+    let Call { plan, moves, rows, verdicts, work } = call;
+    match random.between(0, 9) {
+        0 => break_list(random, moves, &[plan.regions, plan.sectors]),
+        1 | 2 => {
+            let room = &mut [rows, verdicts, work][random.place(3)];
+            **room = random.pick(&[0, room.saturating_sub(1), **room + 1, **room + 7]);
+        }
+        _ => plan.break_one(random),
+    }
+}
+
+/// Slices of no length lie nowhere.
+#[test]
+fn empty_slices() {
+    let (mut colouring, mut verdicts, mut work) = ([1], [7; 2], [7; 4]);
+    let totals = library::call(1, 1, &[9], &[], &[4, 6, 1, 1], &mut colouring, &[], &mut [], &mut verdicts, &mut work);
+    assert_eq!(totals.map(|totals| (totals.first, totals.last)), Ok((0, 0)));
+    assert_eq!((verdicts, work), ([1, 0], [1, 1, 9, 0]));
+    let refused = library::call(0, 0, &[], &[], &[], &mut [], &[], &mut [], &mut [], &mut []);
+    assert_eq!(refused.map_err(|refusal| (refusal.code, refusal.place)), Err((1, 0)));
+}
+
+#[test]
+fn rooms_around_the_limit() {
+    let exact = Call::new(sheet_a(), vec![2, 3, 2, 4, 1, 5, 5, 1, 0]);
+    let mut calls = Vec::new();
+    for rows in 0..=exact.rows + 2 {
+        for verdicts in 0..=exact.verdicts + 2 {
+            for work in 0..=exact.work + 2 {
+                calls.push(Call { rows, verdicts, work, ..exact.clone() });
+            }
+        }
+    }
+    all_cases("rooms", calls);
+}
+
+type CallDamage = (u64, fn(&mut Call));
+
+/// Damage to the rest of a call, with the code it is refused by.
+#[rustfmt::skip]
+const CALL_DAMAGES: &[CallDamage] = &[
+    (9, |call| call.moves.truncate(8)),
+    (9, |call| call.moves.push(0)),
+    (9, |call| call.moves.resize(3 * 4_097, 0)),
+    (10, |call| call.rows -= 1),
+    (10, |call| call.rows = 0),
+    (11, |call| call.verdicts -= 1),
+    (11, |call| call.verdicts = 0),
+    (12, |call| call.work -= 1),
+    (12, |call| call.work = 0),
+];
+
+#[test]
+fn every_refusal_in_order() {
+    let mut damages: Vec<Damage<Call>> = Vec::new();
+    for &(code, place, damage) in PLAN_DAMAGES {
+        damages.push((code, place, Box::new(move |call| damage(&mut call.plan))));
+    }
+    for &(code, damage) in CALL_DAMAGES {
+        damages.push((code, 0, Box::new(damage)));
+    }
+    let good = Call::new(sheet_a(), vec![2, 3, 2, 4, 1, 5, 1, 6, 1]);
+    let calls = damaged(&good, &damages);
+    for (code, place, call) in &calls {
+        assert_eq!(by_reference(&mut Memory::of(call)), [*code, *place, 0, 0], "{call:?}");
+    }
+    all_cases("refusals", calls.into_iter().map(|(_, _, call)| call));
+}
+
+#[test]
+fn wild_numbers_everywhere() {
+    let good = Call::new(sheet_a(), (1..=5).flat_map(|kind| [kind, 2, if kind < 5 { 1 } else { 0 }]).collect());
+    let numbers = [0, 1, 2, 3, 5, 6, 7, 63, 64, 65, 511, 512, 513, 1_000, 1_001, 1_000_000, 1_000_001, 100_000_000_000];
+    let ends = [8, 16, 31, 32, 62, 63].map(|bits| 1 << bits);
+    let mut calls = Vec::new();
+    for number in numbers.into_iter().chain(ends).chain([u64::MAX, u64::MAX - 1, i64::MAX as u64]) {
+        let places = [2, 5, 12, 16, 5, 15].into_iter().enumerate();
+        for (list, place) in places.flat_map(|(list, length)| (0..length).map(move |place| (list, place))) {
+            let mut call = good.clone();
+            match list {
+                0 if place == 0 => call.plan.regions = number,
+                0 => call.plan.sectors = number,
+                1 => call.plan.workloads[place] = number,
+                2 => call.plan.edges[place] = number,
+                3 => call.plan.constraints[place] = number,
+                4 => call.plan.colouring[place] = number,
+                _ => call.moves[place] = number,
+            }
+            calls.push(call);
+        }
+    }
+    all_cases("wild numbers", calls);
+}
+
+/// Plans in which every number stands at one of its ends, with one constraint alone or sixteen equal ones.
+#[test]
+fn numbers_at_their_ends() {
+    let mut random = Random::new(1);
+    let mut calls = Vec::new();
+    for ends in 0..1 << 7 {
+        let end = |bit: u32, low: u64, high: u64| if ends >> bit & 1 == 0 { low } else { high };
+        let (regions, sectors) = (end(0, 1, REGIONS), end(1, 1, SECTORS));
+        for (kind, relation) in [1, 4].into_iter().flat_map(|kind| (1..=6).map(move |r| (kind, r))).chain([(2, 1), (3, 1)]) {
+            let mut plan = plan_of(&mut random, regions, sectors);
+            plan.workloads.fill(end(2, 0, WORKLOAD));
+            plan.edges.chunks_mut(3).for_each(|edge| edge[2] = end(3, 1, AREA));
+            let constraint = [kind, relation, end(4, 0, LIMIT), end(5, 1, WEIGHT)];
+            plan.constraints = constraint.repeat(end(6, 1, CONSTRAINTS) as usize);
+            let moves = moves(&mut random, &plan, 6);
+            calls.push(Call::new(plan, moves));
+        }
+    }
+    all_cases("numbers at their ends", calls);
+}
+
+#[test]
+fn counts_at_their_ends() {
+    let mut random = Random::new(1);
+    let plan = largest_plan(&mut random);
+    assert_eq!((plan.edges.len(), plan.constraints.len()), (3 * 2_048, 4 * 16));
+    let most = moves(&mut random, &plan, MOVES as usize);
+    let largest = Call::new(plan, most);
+
+    let one_more = |change: fn(&mut Call)| {
+        let mut call = largest.clone();
+        change(&mut call);
+        call
+    };
+    let beyond = [
+        one_more(|call| call.plan.edges.extend([511, 512, 1])),
+        one_more(|call| call.plan.constraints.extend([1, 1, 1, 1])),
+        one_more(|call| call.moves.extend([1, 1, 1])),
+        one_more(|call| call.plan.sectors += 1),
+        one_more(|call| {
+            call.plan.regions += 1;
+            call.plan.workloads.push(0);
+            call.plan.colouring.push(1);
+        }),
+    ];
+    for (call, code) in beyond.iter().zip([4, 6, 9, 2, 1]) {
+        assert_eq!(by_reference(&mut Memory::of(call)), [code, 0, 0, 0]);
+    }
+    all_cases("counts beyond their ends", beyond);
+    all_cases("counts at their ends", [largest]);
+}
+
+/// A callee that invents relabel counts above two.
+fn wrong(memory: &mut Memory) -> Answer {
+    let answer = by_reference(memory);
+    if answer[0] == 0 {
+        let count = memory.moves.content().len() / 3;
+        memory.rows.slice().chunks_mut(4).take(count).for_each(|row| row[3] = row[3].min(2));
+    }
+    answer
+}
+
+#[derive(Clone, Debug)]
+struct Misjudged(Call);
+
+impl Case for Misjudged {
+    fn compare(&self) -> Result<Code, String> {
+        compare(&self.0, &[wrong])
+    }
+
+    fn smaller(&self) -> Box<dyn Iterator<Item = Self> + '_> {
+        Box::new(self.0.smaller().map(Misjudged))
+    }
+}
+
+#[test]
+fn a_wrong_callee_is_found_and_its_case_shrunk() {
+    let mut random = Random::new(1);
+    let found = (0..1_000).map(|_| Misjudged(Call::random(&mut random))).find(|case| case.compare().is_err());
+    let Misjudged(Call { plan: Numbers { regions, edges, constraints, .. }, moves, .. }) = shrink(found.expect("found"));
+    // Three relabelled regions take at least four regions and three edges.
+    assert_eq!((constraints.len(), moves.len()), (4, 3));
+    assert!(regions <= 6 && edges.len() <= 12, "{regions} regions, edges {edges:?}");
+}

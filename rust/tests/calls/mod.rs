@@ -1,0 +1,198 @@
+//! A call as it is handed over, those that answer it, and the comparison of what they answer and leave.
+
+#![allow(dead_code)] // each test file takes its own part
+
+use crate::canary::Lent;
+use crate::cases::{Case, Code};
+use crate::plans::{lower, lower_number, moves, one_less, plan, without, Numbers, Random};
+use crate::reference::MOVES;
+use crate::{library, reference};
+
+/// What is handed over: the numbers, and how long the lent rows, verdicts and work memory are.
+#[derive(Clone, Debug)]
+pub struct Call {
+    pub plan: Numbers,
+    pub moves: Vec<u64>,
+    pub rows: u64,
+    pub verdicts: u64,
+    pub work: u64,
+}
+
+impl Call {
+    /// A call with exactly the room it needs.
+    pub fn new(plan: Numbers, moves: Vec<u64>) -> Self {
+        let rows = moves.len() as u64 / 3 * 4;
+        let verdicts = plan.constraints.len() as u64 / 4 * 2;
+        let work = plan.regions + 2 * plan.sectors + 1;
+        Call { plan, moves, rows, verdicts, work }
+    }
+
+    pub fn random(random: &mut Random) -> Self {
+        let plan = plan(random);
+        let count = if random.once_in(400) { MOVES as usize } else { random.pick(&[0, 1, 4, 12, 40]) };
+        let moves = moves(random, &plan, count);
+        Call::new(plan, moves)
+    }
+
+    /// The call without a region; moves name those above it by their new numbers.
+    fn without_region(&self, region: u64) -> Self {
+        let mut call = Call { plan: self.plan.without_region(region), ..self.clone() };
+        for three in call.moves.chunks_exact_mut(3) {
+            three[1] = one_less(three[1], region);
+            if three[0] == 3 || three[0] == 4 {
+                three[2] = one_less(three[2], region);
+            }
+        }
+        call
+    }
+}
+
+/// All memory that is lent, each slice guarded; what is only read is guarded as well.
+#[derive(Clone)]
+pub struct Memory {
+    regions: u64,
+    sectors: u64,
+    workloads: Lent<u64>,
+    edges: Lent<u64>,
+    constraints: Lent<u64>,
+    pub colouring: Lent<u64>,
+    pub moves: Lent<u64>,
+    pub rows: Lent<i64>,
+    pub verdicts: Lent<u64>,
+    pub work: Lent<u64>,
+}
+
+impl Memory {
+    pub fn of(call: &Call) -> Self {
+        let Numbers { regions, sectors, workloads, edges, constraints, colouring } = &call.plan;
+        Memory {
+            regions: *regions,
+            sectors: *sectors,
+            workloads: Lent::list(workloads),
+            edges: Lent::list(edges),
+            constraints: Lent::list(constraints),
+            colouring: Lent::list(colouring),
+            moves: Lent::list(&call.moves),
+            rows: Lent::room(call.rows),
+            verdicts: Lent::room(call.verdicts),
+            work: Lent::room(call.work),
+        }
+    }
+
+    /// In words, where this first differs from what is due.
+    pub fn same_as(&self, due: &Self) -> Result<(), String> {
+        self.rows.same_as(&due.rows, "rows")?;
+        self.colouring.same_as(&due.colouring, "colouring")?;
+        self.verdicts.same_as(&due.verdicts, "verdicts")?;
+        self.work.same_as(&due.work, "work")?;
+        self.workloads.same_as(&due.workloads, "workloads")?;
+        self.edges.same_as(&due.edges, "edges")?;
+        self.constraints.same_as(&due.constraints, "constraints")?;
+        self.moves.same_as(&due.moves, "moves")
+    }
+}
+
+/// Code, place, first total, last total.
+pub type Answer = [u64; 4];
+
+macro_rules! answer {
+    ($side:ident, $memory:ident) => {{
+        let answer = $side::call(
+            $memory.regions,
+            $memory.sectors,
+            $memory.workloads.slice(),
+            $memory.edges.slice(),
+            $memory.constraints.slice(),
+            $memory.colouring.slice(),
+            $memory.moves.slice(),
+            $memory.rows.slice(),
+            $memory.verdicts.slice(),
+            $memory.work.slice(),
+        );
+        match answer {
+            Ok(totals) => [0, 0, totals.first, totals.last],
+            Err(refusal) => [refusal.code, refusal.place, 0, 0],
+        }
+    }};
+}
+
+pub fn by_reference(memory: &mut Memory) -> Answer {
+    answer!(reference, memory)
+}
+
+pub fn by_library(memory: &mut Memory) -> Answer {
+    answer!(library, memory)
+}
+
+/// The archive's own answer, which shows that a place or totals that don't apply are 0.
+pub fn by_archive(memory: &mut Memory) -> Answer {
+    let [workloads, edges, constraints, colouring, moves, verdicts, work] = [
+        &mut memory.workloads,
+        &mut memory.edges,
+        &mut memory.constraints,
+        &mut memory.colouring,
+        &mut memory.moves,
+        &mut memory.verdicts,
+        &mut memory.work,
+    ]
+    .map(|lent| (lent.slice().as_mut_ptr(), lent.slice().len()));
+    let rows = memory.rows.slice();
+    // SAFETY: each pointer and length is that of one slice, and the slices lie in buffers of their own.
+    let answer = unsafe {
+        library::sctr_call(
+            memory.regions,
+            memory.sectors,
+            workloads.0,
+            workloads.1,
+            edges.0,
+            edges.1,
+            constraints.0,
+            constraints.1,
+            colouring.0,
+            colouring.1,
+            moves.0,
+            moves.1,
+            rows.as_mut_ptr(),
+            rows.len(),
+            verdicts.0,
+            verdicts.1,
+            work.0,
+            work.1,
+        )
+    };
+    [answer.code, answer.place, answer.first, answer.last]
+}
+
+/// The code of the call, or in words where one of those under test first differs from the reference.
+pub fn compare(call: &Call, under_test: &[fn(&mut Memory) -> Answer]) -> Result<Code, String> {
+    let before = Memory::of(call);
+    let mut due = before.clone();
+    let answer_due = by_reference(&mut due);
+    for answered in under_test {
+        let mut left = before.clone();
+        let answer = answered(&mut left);
+        if answer != answer_due {
+            return Err(format!("the library answers {answer:?}, document 01 asks for {answer_due:?}"));
+        }
+        left.same_as(&due)?;
+    }
+    Ok((answer_due[0], None))
+}
+
+impl Case for Call {
+    fn compare(&self) -> Result<Code, String> {
+        compare(self, &[by_library, by_archive])
+    }
+
+    fn smaller(&self) -> Box<dyn Iterator<Item = Self> + '_> {
+        let fewer_moves = without(&self.moves, 3).map(|moves| Call { moves, ..self.clone() });
+        let fewer_regions = (1..=self.plan.workloads.len() as u64).map(|region| self.without_region(region));
+        let smaller_plans = self.plan.smaller().map(|plan| Call { plan, ..self.clone() });
+        let lower_moves = lower(&self.moves).map(|moves| Call { moves, ..self.clone() });
+        let less_rows = lower_number(self.rows).map(|rows| Call { rows, ..self.clone() });
+        let less_verdicts = lower_number(self.verdicts).map(|verdicts| Call { verdicts, ..self.clone() });
+        let less_work = lower_number(self.work).map(|work| Call { work, ..self.clone() });
+        let less_room = less_rows.chain(less_verdicts).chain(less_work);
+        Box::new(fewer_moves.chain(fewer_regions).chain(smaller_plans).chain(lower_moves).chain(less_room))
+    }
+}

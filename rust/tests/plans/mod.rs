@@ -1,0 +1,197 @@
+//! Random plans within document 01's limits and moves on them; numbers outside the limits are in `wild`.
+
+#![allow(dead_code, unused_imports)] // each test file takes its own part
+
+mod random;
+mod refused;
+mod smaller;
+mod wild;
+
+use crate::reference::*;
+pub use random::Random;
+pub use refused::{damaged, Damage, PLAN_DAMAGES};
+pub use smaller::{lower, lower_number, one_less, without};
+pub use wild::{break_list, wild};
+
+/// The numbers of a plan and its colouring as they are handed over, right or wrong.
+#[derive(Clone, Debug, PartialEq)]
+pub struct Numbers {
+    pub regions: u64,
+    pub sectors: u64,
+    pub workloads: Vec<u64>,
+    pub edges: Vec<u64>,
+    pub constraints: Vec<u64>,
+    pub colouring: Vec<u64>,
+}
+
+/// The lists of a plan in their order.
+pub const LISTS: [&str; 4] = ["workloads", "edges", "constraints", "colouring"];
+
+impl Numbers {
+    pub fn lists(&self) -> [&Vec<u64>; 4] {
+        [&self.workloads, &self.edges, &self.constraints, &self.colouring]
+    }
+}
+
+pub fn sheet_a() -> Numbers {
+    Numbers {
+        regions: 5,
+        sectors: 2,
+        workloads: vec![10, 20, 30, 25, 15],
+        edges: vec![1, 2, 4, 2, 3, 6, 3, 4, 2, 4, 5, 3],
+        constraints: vec![1, 3, 2, 100, 2, 1, 5, 1, 3, 1, 40, 2, 4, 1, 55, 3],
+        colouring: vec![1, 1, 1, 2, 2],
+    }
+}
+
+/// A plan of any size; small ones are the most frequent.
+pub fn plan(random: &mut Random) -> Numbers {
+    let most = random.pick(&[1, 6, 6, 6, 12, 12, 12, 40, 150, REGIONS]);
+    let regions = if random.once_in(3) { most } else { random.between(1, most) };
+    let few = random.between(1, 4);
+    let sectors = random.pick(&[1, 2, 2, 3, 3, few, few, SECTORS]);
+    plan_of(random, regions, sectors)
+}
+
+/// A plan as large as a plan can be.
+pub fn largest_plan(random: &mut Random) -> Numbers {
+    let mut numbers = plan_of(random, REGIONS, SECTORS);
+    let pairs = scattered(random, REGIONS, EDGES as usize);
+    numbers.edges = measured(random, pairs);
+    numbers.constraints = constraints(random, &numbers, CONSTRAINTS);
+    numbers
+}
+
+pub fn plan_of(random: &mut Random, regions: u64, sectors: u64) -> Numbers {
+    let highest = random.pick(&[0, 1, 3, 100, WORKLOAD]);
+    let ends = random.once_in(4);
+    let workload = |random: &mut Random| if ends { random.pick(&[0, highest]) } else { random.between(0, highest) };
+    let workloads = (0..regions).map(|_| workload(random)).collect();
+    let pairs = pairs(random, regions);
+    let colouring = colouring(random, regions, sectors, &pairs);
+    let edges = measured(random, pairs);
+    let mut numbers = Numbers { regions, sectors, workloads, edges, constraints: vec![], colouring };
+    let count = if random.once_in(10) { CONSTRAINTS } else { random.between(1, 6) };
+    numbers.constraints = constraints(random, &numbers, count);
+    numbers
+}
+
+type Pairs = Vec<(u64, u64)>;
+
+/// The ends of a plan's edges in their order.
+fn pairs(random: &mut Random, regions: u64) -> Pairs {
+    let mut pairs: Pairs = match random.between(0, 6) {
+        0 => vec![],
+        1 => grid(random.between(1, 24), regions),
+        2 => (2..=regions).map(|b| (random.between(1, b - 1), b)).collect(),
+        3 => star(random.between(1, regions), regions),
+        4 => {
+            // Every pair, as far as the most edges go.
+            let last = regions.min(random.between(2, 64));
+            (1..last).flat_map(|a| (a + 1..=last).map(move |b| (a, b))).collect()
+        }
+        _ => {
+            let count = random.between(0, (3 * regions).min(EDGES)) as usize;
+            scattered(random, regions, count)
+        }
+    };
+    pairs.sort();
+    pairs
+}
+
+/// Rows of this width; a path when it is 1.
+fn grid(width: u64, regions: u64) -> Pairs {
+    let right = (1..regions).filter(|a| a % width != 0).map(|a| (a, a + 1));
+    let down = (1..=regions).map(|a| (a, a + width)).filter(|&(_, b)| b <= regions);
+    right.chain(down).collect()
+}
+
+fn star(hub: u64, regions: u64) -> Pairs {
+    (1..hub).map(|a| (a, hub)).chain((hub + 1..=regions).map(|b| (hub, b))).collect()
+}
+
+/// Any pairs of regions, at most this many.
+fn scattered(random: &mut Random, regions: u64, count: usize) -> Pairs {
+    let mut pairs: Pairs = Vec::new();
+    if regions > 1 {
+        for _ in 0..2 * count {
+            let a = random.between(1, regions - 1);
+            pairs.push((a, random.between(a + 1, regions)));
+        }
+    }
+    pairs.sort();
+    pairs.dedup();
+    while pairs.len() > count {
+        pairs.remove(random.place(pairs.len()));
+    }
+    pairs
+}
+
+/// Edges between these ends, with areas.
+fn measured(random: &mut Random, pairs: Pairs) -> Vec<u64> {
+    let largest = random.pick(&[1, 9, AREA]);
+    let smallest = random.pick(&[1, 1, largest]);
+    pairs.into_iter().flat_map(|(a, b)| [a, b, random.between(smallest, largest)]).collect()
+}
+
+fn colouring(random: &mut Random, regions: u64, sectors: u64, pairs: &Pairs) -> Vec<u64> {
+    let mut colouring: Vec<u64> = match random.between(0, 3) {
+        0 => vec![random.between(1, sectors); regions as usize],
+        1 => (0..regions).map(|region| 1 + region * sectors / regions).collect(),
+        _ => (0..regions).map(|_| random.between(1, sectors)).collect(),
+    };
+    // Sometimes regions take a neighbour's sector, so that components grow.
+    if random.once_in(2) {
+        for &(a, b) in pairs {
+            if random.once_in(2) {
+                colouring[b as usize - 1] = colouring[a as usize - 1];
+            }
+        }
+    }
+    colouring
+}
+
+/// Constraints whose limits are at their ends, or close to what the plan has.
+fn constraints(random: &mut Random, plan: &Numbers, count: u64) -> Vec<u64> {
+    let whole: u64 = plan.workloads.iter().sum();
+    let area: u64 = plan.edges.chunks(3).map(|edge| edge[2]).sum();
+    let mut constraints = Vec::new();
+    for _ in 0..count {
+        let kind = random.between(1, 4);
+        let relation = if kind == 1 || kind == 4 { random.between(1, 6) } else { 1 };
+        let sector = random.between(1, plan.sectors);
+        let held = plan.colouring.iter().zip(&plan.workloads).filter(|(own, _)| **own == sector);
+        let close = match kind {
+            1 => random.between(0, plan.regions),
+            2 => random.between(0, area),
+            3 => random.between(0, plan.sectors * whole),
+            _ => held.map(|(_, workload)| workload).sum(),
+        };
+        let close = (close + random.between(0, 2)).saturating_sub(1).min(LIMIT);
+        let any = random.between(0, LIMIT);
+        let limit = random.pick(&[0, 1, close, close, close, close, any, LIMIT]);
+        let any = random.between(1, WEIGHT);
+        constraints.extend([kind, relation, limit, random.pick(&[1, any, WEIGHT])]);
+    }
+    constraints
+}
+
+/// Moves on a plan; one in eight has a number that may be refused.
+pub fn moves(random: &mut Random, plan: &Numbers, count: usize) -> Vec<u64> {
+    let mut moves = Vec::new();
+    for _ in 0..count {
+        let kind = random.between(1, 5);
+        let first = random.between(1, plan.regions);
+        let second = match kind {
+            1 | 2 => random.between(1, plan.sectors),
+            3 | 4 => random.between(1, plan.regions),
+            _ => 0,
+        };
+        let mut three = [kind, first, second];
+        if random.once_in(8) {
+            three[random.place(3)] = wild(random, &[plan.regions, plan.sectors, 5]);
+        }
+        moves.extend(three);
+    }
+    moves
+}

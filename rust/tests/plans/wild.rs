@@ -1,0 +1,45 @@
+//! Numbers and lists outside document 01's limits.
+
+use super::{Numbers, Random};
+use crate::reference::*;
+
+/// A number at or beyond an end: of these, of document 01's limits, or of a type.
+pub fn wild(random: &mut Random, ends: &[u64]) -> u64 {
+    let mut all = ends.to_vec();
+    all.extend([0, REGIONS, SECTORS, WORKLOAD, EDGES, CONSTRAINTS, LIMIT, WEIGHT, MOVES]);
+    all.extend([1 << 8, 1 << 16, 1 << 31, 1 << 32, 1 << 62, 1 << 63, u64::MAX, random.any()]);
+    let end = random.pick(&all);
+    random.pick(&[end, end, end.wrapping_add(1), end.wrapping_sub(1)])
+}
+
+/// Changes one number of a list, its length or its order.
+pub fn break_list(random: &mut Random, list: &mut Vec<u64>, ends: &[u64]) {
+    let number = wild(random, ends);
+    if list.is_empty() {
+        return list.push(number);
+    }
+    let (place, other) = (random.place(list.len()), random.place(list.len()));
+    match random.between(0, 7) {
+        0 => list.push(number),
+        1 => list.truncate(list.len() - 1),
+        2 => list.truncate(place),
+        3 => list.swap(place, other),
+        4 => list.extend_from_within(place..),
+        _ => list[place] = number,
+    }
+}
+
+impl Numbers {
+    /// Changes one thing for a wild one; by chance the plan may still be good after it.
+    pub fn break_one(&mut self, random: &mut Random) {
+        let ends = [self.regions, self.sectors];
+        match random.between(0, 9) {
+            0 => self.regions = wild(random, &ends),
+            1 => self.sectors = wild(random, &ends),
+            2 | 3 => break_list(random, &mut self.workloads, &ends),
+            4 | 5 => break_list(random, &mut self.edges, &ends),
+            6 | 7 => break_list(random, &mut self.constraints, &ends),
+            _ => break_list(random, &mut self.colouring, &ends),
+        }
+    }
+}

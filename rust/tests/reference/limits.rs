@@ -1,0 +1,17 @@
+//! The numbers that document 01 fixes.
+
+pub const REGIONS: u64 = 512;
+pub const SECTORS: u64 = 64;
+pub const WORKLOAD: u64 = 1_000_000;
+pub const EDGES: u64 = 2_048;
+pub const AREA: u64 = 1_000_000;
+pub const CONSTRAINTS: u64 = 16;
+pub const LIMIT: u64 = 100_000_000_000;
+pub const WEIGHT: u64 = 1_000;
+pub const MOVES: u64 = 4_096;
+
+/// A block's bytes, its bytes before the payload, and the most payload it has; the most blocks a sheet has.
+pub const BLOCK: usize = 512;
+pub const PREFIX: usize = 10;
+pub const PAYLOAD: usize = 500;
+pub const BLOCKS: usize = 43;

@@ -1,0 +1,88 @@
+//! Sheet A and its numbers: every line of document 01, asked of the reference and of the library.
+
+mod calls;
+mod canary;
+mod cases;
+mod library;
+mod plans;
+mod reference;
+
+use calls::{by_archive, by_library, by_reference, Answer, Call, Memory};
+use plans::{sheet_a, Numbers};
+
+/// The answer to these moves on a plan and what they leave, the same from all.
+fn asked(plan: &Numbers, moves: &[u64]) -> (Answer, Memory) {
+    let call = Call::new(plan.clone(), moves.to_vec());
+    let mut memory = Memory::of(&call);
+    let answer = by_reference(&mut memory);
+    for other in [by_library, by_archive] {
+        let mut others = Memory::of(&call);
+        assert_eq!(other(&mut others), answer);
+        assert_eq!(others.same_as(&memory), Ok(()));
+    }
+    (answer, memory)
+}
+
+/// The rows of these moves on sheet A.
+fn rows(moves: &[u64]) -> Vec<i64> {
+    asked(&sheet_a(), moves).1.rows.content().to_vec()
+}
+
+#[test]
+fn total_labels_border_and_deviation() {
+    let (answer, memory) = asked(&sheet_a(), &[]);
+    assert_eq!(answer, [0, 0, 15, 15]);
+    // Five labels, two component counts, two workload sums, T.
+    assert_eq!(memory.work.content(), [1, 1, 1, 4, 4, 1, 1, 60, 40, 2]);
+    assert_eq!(memory.verdicts.content(), [1, 0, 1, 0, 1, 0, 0, 5]);
+
+    // D is 40: with limit 0 it is the violation of kind 3.
+    let plan = Numbers { constraints: vec![3, 1, 0, 1], ..sheet_a() };
+    assert_eq!(asked(&plan, &[]).1.verdicts.content(), [0, 40]);
+}
+
+#[test]
+fn moves() {
+    assert_eq!(rows(&[1, 2, 2]), [0, 307, 15, 0]);
+    assert_eq!(rows(&[2, 2, 2]), [0, 307, 322, 2]);
+    assert_eq!(rows(&[2, 3, 2]), [0, 111, 126, 3]);
+    assert_eq!(rows(&[4, 3, 4]), [0, 291, 306, 2]);
+}
+
+#[test]
+fn region_violations() {
+    assert_eq!(rows(&[5, 3, 0, 5, 4, 0, 5, 5, 0]), [0, 57, 15, 0, 0, 42, 15, 0, 0, 40, 15, 0]);
+}
+
+#[test]
+fn refused_moves() {
+    assert_eq!(rows(&[1, 6, 1, 1, 5, 3, 9, 0, 0]), [22, 0, 15, 0, 23, 0, 15, 0, 21, 0, 15, 0]);
+}
+
+#[test]
+fn empty_sectors_count() {
+    let mut plan = Numbers {
+        regions: 1,
+        sectors: 64,
+        workloads: vec![0],
+        edges: vec![],
+        constraints: vec![4, 6, 1, 1],
+        colouring: vec![1],
+    };
+    assert_eq!(asked(&plan, &[]).1.verdicts.content(), [0, 64]);
+    plan.workloads = vec![1];
+    assert_eq!(asked(&plan, &[]).1.verdicts.content(), [0, 63]);
+}
+
+#[test]
+fn refused_numbers() {
+    let mut plan = sheet_a();
+    plan.workloads[3] = 1_000_000;
+    assert_eq!(asked(&plan, &[]).0[..2], [0, 0]);
+    plan.workloads[3] = 1_000_001;
+    assert_eq!(asked(&plan, &[]).0, [3, 4, 0, 0]);
+
+    let mut plan = sheet_a();
+    plan.edges[3..5].copy_from_slice(&[2, 2]);
+    assert_eq!(asked(&plan, &[]).0, [5, 2, 0, 0]);
+}
