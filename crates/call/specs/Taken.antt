@@ -1,16 +1,16 @@
 -- A list of moves taken in turn: what stands, and which rows are put down, after some of them.
 -- Assumes nothing.
-use Prim.Native.Nat.{ℕ, suc, _+_, _*_, _/_, _≤_, _<_}
-use native.Mathlib.Nat.{zero-add, add-zero, add-suc, suc-add}
+use Prim.Native.Nat.{ℕ, _+_, _*_, _/_, _≤_, _<_}
+use native.Mathlib.Nat.{zero-add}
 use native.Mathlib.Numerals.{add-one}
 use native.Mathlib.Omega.{arith}
 use mathlib.Core.Path.{_≡_, refl, sym, _∙_}
 use mathlib.Core.List.{List, [], _∷_, _++_}
 use lib.IntN.{ℤ}
-use lib.ListN.{length, drop, set, length-append, drop-of-length-le, take-append-drop}
+use lib.ListN.{length, drop, length-append, drop-of-length-le, take-append-drop}
 use lib.Seq.{sets, sets-eq}
 use Rattle.lists.specs.Sums.{Every}
-use Rattle.lists.specs.ListLaws.{length-listOf, drop-listOf, every-listOf}
+use Rattle.lists.specs.ListLaws.{sets-append, length-listOf, drop-listOf, every-listOf}
 use Rattle.terms.specs.declared.Move.{Move}
 use Rattle.meaning.specs.Plan.{Plan, Limits, Coloured}
 use Rattle.meaning.specs.Moves.{moveLength, rowLength, moveAt, movesOf, next, Row, row, cells, rows, last}
@@ -20,11 +20,6 @@ use Rattle.call.specs.Decoded.{move-within, coloured-next}
 use Rattle.engine.specs.declared.Standing.{Standing}
 
 -- ---- rows one after another
-
--- a list stored in two parts, one after the other
-sets-append : {A : Type 0} (l : List A) (n : ℕ) (xs ys : List A) → sets l n (xs ++ ys) ≡ sets (sets l n xs) (n + length xs) ys
-sets-append l n [] ys = rw (add-zero n)
-sets-append l n (x ∷ xs) ys = sets-append (set l n x) (suc n) xs ys ∙ rw (suc-add n (length xs), add-suc n (length xs))
 
 -- a row has as many cells as it takes numbers
 length-cells : (r : Row) → length (cells r) ≡ rowLength

@@ -7,7 +7,7 @@ pub mod Changing
 pub mod Settling
 pub mod Recolouring
 pub mod Exchanging
-pub mod Copied
+pub mod Compared
 pub mod Asking
 pub mod Opening
 pub mod Differences

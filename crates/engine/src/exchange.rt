@@ -16,7 +16,6 @@ ghost use Rattle.engine.specs.Swapping.{Swapping};
 ghost use Rattle.engine.specs.Exchanging.{Exchanging};
 use crate::Made;
 use crate::Standing;
-use crate::memory::copy;
 use crate::memory::differing;
 use crate::memory::sides_in;
 use crate::settle::settle;
@@ -30,6 +29,7 @@ use change::figures_after;
 use change::in_turn;
 use change::total_after;
 use change::turned_round;
+use lists::copy;
 use terms::limits::MOST_REGIONS;
 
 // What giving two regions of different sectors each other's sector would change.

@@ -1,7 +1,6 @@
 // The front of the work memory: the labels, then the component count and then the workload sum of each sector.
 ghost use mathlib.Core.Path.{_≡_};
 ghost use mathlib.Core.List.{_++_};
-ghost use Prim.Native.Nat.{_≤_};
 ghost use lib.ListN.{length, drop};
 ghost use Rattle.meaning.specs.Plan.{Plan, planOf};
 ghost use Rattle.meaning.specs.Moves.{differing as differingOf};
@@ -10,6 +9,7 @@ ghost use Rattle.engine.specs.Memory.{Placed, sidesIn, sidesPut};
 ghost use Rattle.engine.specs.Opening.{Blank};
 use change::Pair;
 use change::Sides;
+use lists::copy;
 use terms::limits::MOST_REGIONS;
 
 // The component counts and the workload sums of two sectors: the one that a region leaves and the one that it comes to.
@@ -55,18 +55,6 @@ pub fn put_sides(
     work[new] = components.new;
     work[old + further] = workloads.old;
     work[new + further] = workloads.new;
-}
-
-// Puts down some numbers in the place of the first of others.
-pub fn copy(from: &[u64], to: &mut [u64])
-    requires { ⌜ length (now from) ≤ length (now to) ⌝ }
-    ensures { λ _. ⌜ now (to .exit) ≡ now (from .entry) ++ drop (length (now (from .entry))) (now (to .entry)) ⌝ }
-{
-    let mut i = 0;
-    while i < from.len() {
-        to[i] = from[i];
-        i += 1;
-    }
 }
 
 // How many regions have another label after than before.

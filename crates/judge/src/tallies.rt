@@ -2,7 +2,7 @@
 ghost use mathlib.Core.Path.{_≡_};
 ghost use mathlib.Core.Bool.{cond};
 ghost use Prim.Native.Nat.{_+_, _/_, _<_, _≤_, _^_};
-ghost use lib.ListN.{length, replicate};
+ghost use lib.ListN.{length};
 ghost use Rattle.lists.specs.Sums.{In, at, bit, sum, Every};
 ghost use Rattle.meaning.specs.Plan.{mostWorkload, edgeLength, edgeAt, edgesOf};
 ghost use Rattle.meaning.specs.Joined.{leads};
@@ -11,18 +11,8 @@ ghost use Rattle.judge.specs.Figures.{tally};
 ghost use Rattle.judge.specs.Tallies.{added, Tallying};
 ghost use Rattle.judge.specs.Small.{SmallEdges};
 use crate::bit_of;
+use lists::clear;
 use terms::limits::EDGE_LENGTH;
-
-// Makes every number 0.
-fn clear(numbers: &mut [u64])
-    ensures { λ _. ⌜ now (numbers .exit) ≡ replicate (length (now (numbers .entry))) 0 ⌝ }
-{
-    let mut i = 0;
-    while i < numbers.len() {
-        numbers[i] = 0;
-        i += 1;
-    }
-}
 
 // Adds x to the sum of a sector.
 fn add_to(sums: &mut [u64], sector: u64, x: u64)

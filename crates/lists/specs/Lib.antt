@@ -7,3 +7,4 @@ pub mod Places
 pub mod Parts
 pub mod Few
 pub mod Loops
+pub mod Copied

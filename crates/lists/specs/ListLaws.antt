@@ -1,12 +1,12 @@
--- Laws of a list that a function of 0, 1, 2, .. gives.
+-- Laws of a list that a function of 0, 1, 2, .. gives, and of one that is stored in parts.
 -- Assumes nothing.
 use Prim.Native.Nat.{ℕ, zero, suc, _+_, _<_}
 use native.Mathlib.Nat.{le-of-suc-le-suc, not-suc-le-zero, zero-add, add-zero, add-suc, suc-add}
 use native.Mathlib.Omega.{arith}
 use mathlib.Core.Path.{_≡_, refl, sym, ap, _∙_}
-use mathlib.Core.List.{List, [], _∷_, map}
-use lib.ListN.{length, getD, drop, length-map}
-use lib.Seq.{getD-drop}
+use mathlib.Core.List.{List, [], _∷_, _++_, map}
+use lib.ListN.{length, getD, set, drop, length-map}
+use lib.Seq.{sets, getD-drop}
 use Rattle.lists.specs.Sums.{from, listOf, Every}
 use Rattle.lists.specs.SumLaws.{length-from, from-every, every-from, every-map}
 
@@ -25,6 +25,11 @@ pub drop-places : (n k : ℕ) → k < n → drop k (from 0 n) ≡ k ∷ drop (su
 drop-places n k h = drop-from 0 n k h ∙ rw (zero-add k)
 
 module _ {A : Type 0} where
+  -- a list stored in two parts, one after the other
+  pub sets-append : (l : List A) (n : ℕ) (xs ys : List A) → sets l n (xs ++ ys) ≡ sets (sets l n xs) (n + length xs) ys
+  sets-append l n [] ys = rw (add-zero n)
+  sets-append l n (x ∷ xs) ys = sets-append (set l n x) (suc n) xs ys ∙ rw (suc-add n (length xs), add-suc n (length xs))
+
   drop-map : (f : ℕ → A) (j : ℕ) (xs : List ℕ) → drop j (map f xs) ≡ map f (drop j xs)
   drop-map f zero xs = refl
   drop-map f (suc j) [] = refl

@@ -5,7 +5,7 @@ use native.Mathlib.Nat.{le-of-suc-le-suc, not-suc-le-zero, suc-mul, le-trans, mu
 use native.Mathlib.Omega.{arith}
 use native.Mathlib.Decide.{ℕ-discrete}
 use mathlib.Core.Path.{_≡_, refl, sym, ap, _∙_}
-use mathlib.Core.List.{List, [], _∷_, map}
+use mathlib.Core.List.{List, [], _∷_, _++_, map}
 use mathlib.Core.Logic.{_≢_, _↔_}
 use lib.ListN.{length, getD, length-map}
 use Rattle.lists.specs.Sums.{In, at, from, upTo, sum, Every}
@@ -51,6 +51,10 @@ module _ {A : Type 0} where
   pub sum-zero : (xs : List A) (f : A → ℕ) → Every (λ x. f x ≡ 0) xs → sum xs f ≡ 0
   sum-zero xs f e = sum-ext xs f (λ x. 0) e ∙ sum-none xs
 
+  pub sum-append : (xs ys : List A) (f : A → ℕ) → sum (xs ++ ys) f ≡ sum xs f + sum ys f
+  sum-append [] ys f = omega arith
+  sum-append (x ∷ xs) ys f = omega (arith, sum-append xs ys f)
+
   pub sum-map : {B : Type 0} (g : B → A) (xs : List B) (f : A → ℕ) → sum (map g xs) f ≡ sum xs (λ x. f (g x))
   sum-map g [] f = refl
   sum-map g (x ∷ xs) f = ap (λ (n : ℕ). f (g x) + n) (sum-map g xs f)
@@ -66,6 +70,10 @@ module _ {A : Type 0} where
   pub every-turn : {P Q : A → Type 0} → ((x : A) → P x → Q x) → (xs : List A) → Every P xs → Every Q xs
   every-turn h [] p = tt
   every-turn h (x ∷ xs) p = (h x (p .0), every-turn h xs (p .1))
+
+  pub every-append : (P : A → Type 0) (xs ys : List A) → Every P xs → Every P ys → Every P (xs ++ ys)
+  every-append P [] ys p q = q
+  every-append P (x ∷ xs) ys p q = (p .0, every-append P xs ys (p .1) q)
 
   pub every-map : {B : Type 0} (P : A → Type 0) (g : B → A) (xs : List B) → Every (λ x. P (g x)) xs → Every P (map g xs)
   every-map P g [] e = tt

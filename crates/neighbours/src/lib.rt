@@ -1,7 +1,7 @@
 // Each region's neighbours, with the areas of the faces, in compressed rows.
 ghost use mathlib.Core.Path.{_≡_};
 ghost use Prim.Native.Nat.{ℕ, _-_, _*_, _/_, _^_, _<_, _≤_};
-ghost use lib.ListN.{length, replicate};
+ghost use lib.ListN.{length};
 ghost use Rattle.lists.specs.Sums.{In, at};
 ghost use Rattle.meaning.specs.Plan.{edgeLength, edgesOf};
 ghost use Rattle.meaning.specs.Paths.{Ends};
@@ -9,18 +9,8 @@ ghost use Rattle.neighbours.specs.Table.{Table};
 ghost use Rattle.neighbours.specs.Degree.{rowEnd};
 ghost use Rattle.neighbours.specs.Counts.{oneMore, Counted};
 ghost use Rattle.neighbours.specs.Rows.{Free, Placed, Filled};
+use lists::clear;
 use terms::limits::EDGE_LENGTH;
-
-// Puts 0 everywhere.
-fn clear(counts: &mut [u64])
-    ensures { λ _. ⌜ now (counts .exit) ≡ replicate (length (now (counts .entry))) 0 ⌝ }
-{
-    let mut k = 0;
-    while k < counts.len() {
-        counts[k] = 0;
-        k += 1;
-    }
-}
 
 // Counts one edge more at a region.
 fn count_one(counts: &mut [u64], region: u64)

@@ -1,13 +1,14 @@
 -- A list put down in a part of another, and a loop that puts it down piece by piece.
 -- Assumes nothing.
-use Prim.Native.Nat.{ℕ, suc, _+_, _≤_, _<_}
-use native.Mathlib.Nat.{add-zero, add-suc, suc-add}
+use Prim.Native.Nat.{ℕ, _+_, _≤_, _<_}
+use native.Mathlib.Nat.{add-zero}
 use native.Mathlib.Numerals.{add-one}
 use native.Mathlib.Omega.{arith}
 use mathlib.Core.Path.{_≡_, refl, sym, ap, _∙_}
 use mathlib.Core.List.{List, [], _∷_, _++_, append-assoc, append-nil}
 use lib.ListN.{length, take, drop, set, length-append, length-set, take-append-drop}
 use lib.Seq.{length-take-le, sets, length-sets, sets-eq}
+use Rattle.lists.specs.ListLaws.{sets-append}
 use Rattle.packing.specs.Part.{part, part-middle}
 
 module _ {A : Type 0} where
@@ -38,10 +39,6 @@ module _ {A : Type 0} where
   part-put d at s h =
       ap (part at (at + length s)) (append-assoc (take at d) s (drop (at + length s) d))
       ∙ part-middle (take at d) s (drop (at + length s) d) at (at + length s) (length-take-le at d h) (omega arith)
-
-  sets-append : (d : List A) (at : ℕ) (s t : List A) → sets d at (s ++ t) ≡ sets (sets d at s) (at + length s) t
-  sets-append d at [] t = rw (add-zero at)
-  sets-append d at (a ∷ s) t = sets-append (set d at a) (suc at) s t ∙ rw (suc-add at (length s), add-suc at (length s))
 
   -- one list put down after another is both put down
   pub put-put : (d : List A) (at : ℕ) (s t : List A) → at + length (s ++ t) ≤ length d → put (put d at s) (at + length s) t ≡ put d at (s ++ t)

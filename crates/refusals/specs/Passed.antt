@@ -1,4 +1,4 @@
--- What a table that refuses nothing says of its rows.
+-- What a table refuses, row by row, and what one that refuses nothing says of its rows.
 -- Assumes nothing.
 use Prim.Native.Nat.{ℕ, zero, suc, _/_, _%_, _≤_, _<_}
 use native.Mathlib.Nat.{zero-add}
@@ -12,7 +12,7 @@ use lib.ListN.{length}
 use Rattle.lists.specs.Sums.{In, from, Every}
 use Rattle.lists.specs.SumLaws.{from-every}
 use Rattle.terms.specs.Plan.{within}
-use Rattle.refusals.specs.Table.{Row, none, offFrom, firstOff, refusal, records}
+use Rattle.refusals.specs.Table.{Row, refused, none, offFrom, firstOff, refusal, records}
 use Rattle.refusals.specs.Turn.{coded, coded-first, coded-rest}
 
 -- no row is given
@@ -41,6 +41,35 @@ passed-none (r ∷ rs) p = rw (p .0) (passed-none rs (p .1))
 pub passed-more : (rows more : List Row) → Passed (rows ++ more) → Passed rows × Passed more
 passed-more [] more p = (tt, p)
 passed-more (r ∷ rs) more p = let q = passed-more rs more (p .1) in ((p .0, q .0), q .1)
+
+-- ---- what a table refuses, row by row
+
+module _ (r : Row) (rs : List Row) where
+  -- a first row that is given settles it
+  pub first-given : r .given ≡ true → refused (r .code) (r .place) ≡ refusal (r ∷ rs)
+  unfolding refusal
+  first-given e = rw e
+
+  -- one that is not leaves it to the others
+  pub first-passed : r .given ≡ false → refusal rs ≡ refusal (r ∷ rs)
+  unfolding refusal
+  first-passed e = rw e
+
+front-first : (r : Row) (rs more : List Row) (b : Bool) → r .given ≡ b → ((refusal rs .code ≡ 0 → ⊥) → refusal rs ≡ refusal (rs ++ more)) → (refusal (r ∷ rs) .code ≡ 0 → ⊥) → refusal (r ∷ rs) ≡ refusal (r ∷ rs ++ more)
+unfolding refusal
+front-first r rs more true e h n = rw e
+front-first r rs more false e h n = rw e (h (rw e at n))
+
+-- what the first rows refuse, all do
+pub front-given : (rows more : List Row) → (refusal rows .code ≡ 0 → ⊥) → refusal rows ≡ refusal (rows ++ more)
+unfolding refusal
+front-given [] more n = absurd (n refl)
+front-given (r ∷ rs) more n = front-first r rs more (r .given) refl (front-given rs more) n
+
+-- what no first row refuses is left to the others
+pub front-passed : (rows more : List Row) → Passed rows → refusal more ≡ refusal (rows ++ more)
+front-passed [] more p = refl
+front-passed (r ∷ rs) more p = rw (← first-passed r (rs ++ more) (p .0)) (front-passed rs more (p .1))
 
 -- ---- a test that passes
 

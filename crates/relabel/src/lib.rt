@@ -1,7 +1,7 @@
 // The labels of a colouring, and the labels after a made recolouring at the cost of what it changes.
 ghost use mathlib.Core.Path.{_≡_};
 ghost use Prim.Native.Nat.{_-_, max};
-ghost use lib.ListN.{length, replicate};
+ghost use lib.ListN.{length};
 ghost use Rattle.lists.specs.Sums.{at};
 ghost use Rattle.meaning.specs.Plan.{edgesOf};
 ghost use Rattle.meaning.specs.Joined.{labels as labelsOf};
@@ -11,6 +11,7 @@ ghost use Rattle.relabel.specs.Ranging.{Rangeable, Ranged};
 ghost use Rattle.relabel.specs.Lifting.{Leaving, Coming, labelsBut};
 ghost use Rattle.relabel.specs.Recolouring.{Recolourable};
 ghost use Rattle.relabel.specs.Labelling.{Labellable};
+use lists::clear;
 
 pub mod component; // component.rt: components are searched and labelled
 
@@ -153,17 +154,6 @@ pub fn recolour(
     );
     let relabelled = left + come(edges, start, near, colouring, labels, queue, region, sector);
     Made { relabelled, pieces }
-}
-
-// Puts 0 everywhere.
-fn clear(labels: &mut [u64])
-    ensures { λ _. ⌜ now (labels .exit) ≡ replicate (length (now (labels .entry))) 0 ⌝ }
-{
-    let mut k = 0;
-    while k < labels.len() {
-        labels[k] = 0;
-        k += 1;
-    }
 }
 
 // Labels each region with the smallest that it is joined to, whatever the labels were: each component is gone through once.

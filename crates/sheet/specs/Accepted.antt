@@ -17,7 +17,7 @@ use Rattle.refusals.specs.Table.{Row, whole, refusal, none, planTable, planRefu
 use Rattle.refusals.specs.Passed.{Passed, passed, passed-none, passed-more, passed-in, passed-equal, passed-most, passed-records}
 use Rattle.blocks.specs.Block.{blockLength, wrong}
 use Rattle.blocks.specs.Sheet.{blockAt, faultFrom}
-use Rattle.sheet.specs.Appended.{every-append}
+use Rattle.lists.specs.SumLaws.{every-append}
 use Rattle.sheet.specs.Form.{letters, mostBlocks, headWidths, dues, Contents, countsIn, contentsIn}
 use Rattle.sheet.specs.FormLaws.{HeadLimits, few-blocks, head-first, some-block}
 use Rattle.sheet.specs.Reading.{lengthRight, openTable, contentsRefusal, heldTable, sheetRefusal, Input, roomRight, readRefusal}

@@ -1,4 +1,4 @@
--- Two lists, one after the other: what holds of each holds of both, and what is made of the first does not depend on the second.
+-- Two lists, one after the other: what is made of the first does not depend on the second.
 -- Assumes nothing.
 use Prim.Native.Nat.{ℕ, suc, _+_, _≤_}
 use native.Mathlib.Omega.{arith}
@@ -6,22 +6,10 @@ use mathlib.Core.Path.{_≡_, refl, ap}
 use mathlib.Core.List.{List, [], _∷_, _++_}
 use lib.ListN.{length, drop, length-drop}
 use lib.Seq.{take-append-le, drop-append-le}
-use Rattle.lists.specs.Sums.{sum, Every}
 use Rattle.packing.specs.Numbers.{le, pack, Fits}
 use Rattle.blocks.specs.declared.Due.{Due}
 use Rattle.blocks.specs.Section.{usedAll}
 use Rattle.blocks.specs.Sheet.{sheetFrom}
-
-module _ {A : Type 0} where
-  -- what each of both lists has
-  pub every-append : (P : A → Type 0) (xs ys : List A) → Every P xs → Every P ys → Every P (xs ++ ys)
-  every-append P [] ys p q = q
-  every-append P (x ∷ xs) ys p q = (p .0, every-append P xs ys (p .1) q)
-
-  -- the sum over both is the sum of the two
-  pub sum-append : (xs ys : List A) (f : A → ℕ) → sum (xs ++ ys) f ≡ sum xs f + sum ys f
-  sum-append [] ys f = omega arith
-  sum-append (x ∷ xs) ys f = omega (arith, sum-append xs ys f)
 
 -- numbers that fit their widths, and then others
 pub fits-append : (a b xs ys : List ℕ) → Fits a xs → Fits b ys → Fits (a ++ b) (xs ++ ys)

@@ -13,7 +13,7 @@ use Rattle.blocks.specs.declared.Section.{Section}
 use Rattle.blocks.specs.Section.{due, dueOf, sectionDues, Sized, Small, usedAll}
 use Rattle.blocks.specs.SectionLaws.{small-due, used-dues, length-due}
 use Rattle.sheet.specs.declared.Counts.{Counts}
-use Rattle.sheet.specs.Appended.{sum-append}
+use Rattle.lists.specs.SumLaws.{sum-append}
 use Rattle.sheet.specs.Form.{mostBlocks, headWidths, sections, dues, widths, turned}
 
 -- all bytes of the sections are used

@@ -12,7 +12,6 @@ pub mod RoundTrip
 pub mod Promised
 pub mod BySection
 pub mod Records
-pub mod Tables
 pub mod Opening
 pub mod Turning
 pub mod Listed

@@ -13,14 +13,13 @@ use Rattle.terms.specs.Plan.{within}
 use Rattle.meaning.specs.Plan.{mostRegions, mostSectors, mostEdges, mostConstraints}
 use Rattle.refusals.specs.declared.Refusal.{Refusal}
 use Rattle.refusals.specs.Table.{Row, whole, refused, none, refusal}
-use Rattle.refusals.specs.Passed.{passed, passed-in, passed-most, passed-records}
+use Rattle.refusals.specs.Passed.{passed, first-given, first-passed, front-given, front-passed, passed-in, passed-most, passed-records}
 use Rattle.blocks.specs.Block.{blockLength, wrong}
 use Rattle.blocks.specs.Sheet.{blockAt}
 use Rattle.sheet.specs.declared.Counts.{Counts}
 use Rattle.sheet.specs.Form.{letters, mostBlocks, headWidths, dues, countsIn}
 use Rattle.sheet.specs.FormLaws.{HeadLimits}
 use Rattle.sheet.specs.Reading.{fault, headRow, lengthRight, openTable}
-use Rattle.sheet.specs.Tables.{first-given, first-passed, front-given, front-passed}
 
 -- the rows on the head's numbers
 abbrev pub headTable : Counts → List Row

@@ -60,7 +60,7 @@ contentsLeft o =
     (take (o .answer .regions) (o .colouring))
 
 -- where it is not refused, they are the contents of the sheet
-left-held : (i : reading.Input) → contentsLeft (reading.held i) ≡ contentsIn (i .sheet)
+pub left-held : (i : reading.Input) → contentsLeft (reading.held i) ≡ contentsIn (i .sheet)
 unfolding reading.held
 left-held i =
     let k = contentsIn (i .sheet) in

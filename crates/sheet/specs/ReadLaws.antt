@@ -12,7 +12,7 @@ use lib.Seq.{take-at}
 use Rattle.meaning.specs.Plan.{edgeLength, constraintLength, mostRegions, mostEdges, mostConstraints}
 use Rattle.refusals.specs.declared.Refusal.{Refusal}
 use Rattle.refusals.specs.Table.{Row, whole, item, refusal}
-use Rattle.refusals.specs.Passed.{passed, all-five}
+use Rattle.refusals.specs.Passed.{passed, first-given, first-passed, front-given, front-passed, all-five}
 use Rattle.blocks.specs.Block.{blockLength}
 use Rattle.blocks.specs.Sheet.{faultFrom}
 use Rattle.sheet.specs.declared.Counts.{Counts}
@@ -25,7 +25,6 @@ use Rattle.sheet.specs.BySection.{workloadsAt, edgesAt, constraintsAt, c
 use Rattle.sheet.specs.Writing.{contents}
 use Rattle.sheet.specs.ContentsLaws.{Counted}
 use Rattle.sheet.specs.RoundTrip.{counted-in}
-use Rattle.sheet.specs.Tables.{first-given, first-passed, front-given, front-passed}
 
 -- ---- what is answered
 

@@ -8,7 +8,7 @@ use Rattle.blocks.specs.Block.{header, body, blockOf, firstWrong, wrong}
 use Rattle.sheet.specs.Form.{Contents, sections, widths, turned, numbers, sheetOf, countsIn, contentsOf, contentsIn}
 use Rattle.sheet.specs.Reading.{openTable, heldTable, sheetRefusal}
 
-sheetA : Contents
+unfoldable pub sheetA : Contents
 sheetA =
     record {
       R = 5;

@@ -1,12 +1,14 @@
--- Showing a block, step by step.
+-- Whether there is a block at a place, the place after it, and showing it, step by step.
 -- Assumes nothing.
 use Prim.Native.Nat.{ℕ, _+_, _*_, _≤_, _<_}
 use native.Mathlib.Omega.{arith}
-use mathlib.Core.Path.{_≡_, refl, sym, ap, _∙_}
-use mathlib.Core.Bool.{true, false}
+use mathlib.Core.Path.{_≡_, sym, _∙_}
+use mathlib.Core.Bool.{Bool, true, false, not, and-eq-true-iff}
 use mathlib.Core.List.{List, []}
-use borrow.Author.Tests.{eq-eqb, ne-eqb, lt-ltb, le-ltb}
+use borrow.Author.Tests.{eqb-true, ltb-true, ltb-false, leb-true, not-true, not-false, eq-eqb, ne-eqb, le-ltb, le-leb}
+use lib.Dec.{ltb, leb}
 use lib.ListN.{length, getD}
+use Rattle.lists.specs.Tests.{test-same}
 use Rattle.refusals.specs.declared.Refusal.{Refusal}
 use Rattle.refusals.specs.Table.{refusal}
 use Rattle.blocks.specs.declared.Due.{Due}
@@ -18,37 +20,69 @@ use Rattle.sheet.specs.declared.Counts.{Counts}
 use Rattle.sheet.specs.Form.{letters, dues, countsIn}
 use Rattle.sheet.specs.FormLaws.{small-form}
 use Rattle.sheet.specs.Reading.{openTable}
-use Rattle.sheet.specs.Showing.{there, sound, shown, Promise}
-use Rattle.sheet.specs.Accepted.{Opened}
+use Rattle.sheet.specs.Showing.{there, pastEnd, nextPlace, sound, shown, Promise}
+use Rattle.sheet.specs.Accepted.{Opened, opened}
 
--- a block that is due of an opened sheet is there, and its used part is no more than a payload
-pub block-room : {sheet : List ℕ} {c : Counts} {m n : ℕ} {d : Due} → Opened sheet → c ≡ countsIn sheet → m ≡ length (dues c) → n < m → d ≡ getD (dues c) n noDue
-    → (blockLength * n + blockLength ≤ length sheet) × (d .used ≤ mostPayload)
-block-room {sheet} {c} {n = n} o k e l f = (omega (arith, o .long, ap (λ (x : Counts). length (dues x)) k), rw f (small-at (dues c) n (small-form c)))
+-- block n is one of those due of an opened sheet
+pub record DueThere (sheet : List ℕ) (n : ℕ) : Type 0 where
+  pub opened : Opened sheet
+  pub before-last : n < length (dues (countsIn sheet))
+
+-- a number is at most n exactly where n is not below it
+leb-not : (m n : ℕ) → leb m n ≡ not (ltb n m)
+leb-not m n = test-same (leb m n) (not (ltb n m)) (λ h. rw (le-ltb n m (leb-true m n h))) (λ h. le-leb m n (ltb-false n m (not-true (ltb n m) h)))
 
 module _ (sheet : List ℕ) (n : ℕ) {f : Refusal} (g : f ≡ refusal (openTable sheet)) where
-  -- a sheet that is not opened shows nothing
-  pub shown-shut : {p : List ℕ} → (f .code ≡ 0 → ⊥) → p ≡ [] → Promise sheet n p
-  unfolding there shown
-  shown-shut s e = record { part = e ∙ rw (← g, ne-eqb (f .code) 0 s) }
+  -- a sheet that is not opened has no block
+  pub past-shut : {r : Bool} → (f .code ≡ 0 → ⊥) → r ≡ true → r ≡ pastEnd sheet n
+  unfolding there
+  past-shut s e = e ∙ rw (← g, ne-eqb (f .code) 0 s)
 
-  module _ (z : f .code ≡ 0) {c : Counts} (k : c ≡ countsIn sheet) {m : ℕ} (l : m ≡ length (dues c)) where
-    -- nor does a place past the last block
-    pub shown-past : {p : List ℕ} → m ≤ n → p ≡ [] → Promise sheet n p
-    unfolding there shown
-    shown-past h e = record { part = e ∙ rw (← g, eq-eqb (f .code) 0 z, ← k, ← l, le-ltb n m h) }
+  -- an opened one has those that are due
+  pub past-last : {c : Counts} {m : ℕ} {r : Bool} → f .code ≡ 0 → c ≡ countsIn sheet → m ≡ length (dues c) → r ≡ leb m n → r ≡ pastEnd sheet n
+  unfolding there
+  past-last {m = m} z k l e = e ∙ rw (← g, eq-eqb (f .code) 0 z, ← k, ← l, leb-not m n)
 
-    module _ (h : n < m) {d : Due} (v : d ≡ getD (dues c) n noDue) {w : ℕ} (u : w ≡ wrong letters (d .kind) n (d .used) (blockAt sheet n)) where
-      here : there sheet n ≡ true
-      unfolding there
-      here = rw (← g, eq-eqb (f .code) 0 z, ← k, ← l, lt-ltb n m h)
+module _ (sheet : List ℕ) (n : ℕ) {b : Bool} (e : b ≡ pastEnd sheet n) where
+  -- where the test fails there is a block, and where it passes there is none
+  is-there : b ≡ false → there sheet n ≡ true
+  is-there z = not-false (there sheet n) (sym e ∙ z)
 
-      -- nor does a block that is refused
-      pub shown-faulty : {p : List ℕ} → (w ≡ 0 → ⊥) → p ≡ [] → Promise sheet n p
-      unfolding sound shown
-      shown-faulty s e = record { part = e ∙ rw (here, ← k, ← v, ← u, ne-eqb w 0 s) }
+  is-past : b ≡ true → there sheet n ≡ false
+  is-past z = not-true (there sheet n) (sym e ∙ z)
 
-      -- any other block shows its used payload
-      pub shown-part : {p : List ℕ} → w ≡ 0 → p ≡ payloadOf (d .used) (blockAt sheet n) → Promise sheet n p
-      unfolding sound shown
-      shown-part s e = record { part = e ∙ rw (here, ← k, ← v, ← u, eq-eqb w 0 s) }
+  -- a place that is not past the end has one of the blocks due
+  pub due-there : b ≡ false → DueThere sheet n
+  unfolding there
+  due-there z = let p = and-eq-true-iff _ _ .0 (is-there z) in record { opened = opened sheet (eqb-true _ 0 (p .0)); before-last = ltb-true n _ (p .1) }
+
+  -- where there is no block, the place stays
+  pub next-past : b ≡ true → n ≡ nextPlace sheet n
+  unfolding nextPlace
+  next-past z = rw (is-past z)
+
+  -- after a block comes the next place
+  pub next-there : b ≡ false → n + 1 ≡ nextPlace sheet n
+  unfolding nextPlace
+  next-there z = rw (is-there z)
+
+  -- nothing is shown where there is no block
+  pub shown-past : {p : List ℕ} → b ≡ true → p ≡ [] → Promise sheet n p
+  unfolding shown
+  shown-past z p = record { part = p ∙ rw (is-past z) }
+
+  module _ (z : b ≡ false) {c : Counts} (k : c ≡ countsIn sheet) {d : Due} (v : d ≡ getD (dues c) n noDue) {w : ℕ} (u : w ≡ wrong letters (d .kind) n (d .used) (blockAt sheet n)) where
+    -- nor of a block that is refused
+    pub shown-faulty : {p : List ℕ} → (w ≡ 0 → ⊥) → p ≡ [] → Promise sheet n p
+    unfolding sound shown
+    shown-faulty s p = record { part = p ∙ rw (is-there z, ← k, ← v, ← u, ne-eqb w 0 s) }
+
+    -- any other block shows its used payload
+    pub shown-part : {p : List ℕ} → w ≡ 0 → p ≡ payloadOf (d .used) (blockAt sheet n) → Promise sheet n p
+    unfolding sound shown
+    shown-part s p = record { part = p ∙ rw (is-there z, ← k, ← v, ← u, eq-eqb w 0 s) }
+
+-- a block that is due has its bytes, and its used part is no more than a payload
+pub block-room : {sheet : List ℕ} {c : Counts} {n : ℕ} {d : Due} → DueThere sheet n → c ≡ countsIn sheet → d ≡ getD (dues c) n noDue
+    → (blockLength * n + blockLength ≤ length sheet) × (d .used ≤ mostPayload)
+block-room {c = c} {n = n} t k f = (omega (arith, t .opened .long, t .before-last), rw f (small-at (dues c) n (small-form c)))

@@ -1,8 +1,8 @@
 -- Document 01, "The sheet": the used payload of a block, as that part of the sheet.
 -- Assumes nothing.
-use Prim.Native.Nat.{ℕ}
+use Prim.Native.Nat.{ℕ, _+_}
 use mathlib.Core.Path.{_≡_, sym, _∙_}
-use mathlib.Core.Bool.{Bool, cond, _&&_}
+use mathlib.Core.Bool.{Bool, cond, not, _&&_}
 use mathlib.Core.List.{List, []}
 use lib.Dec.{eqb, ltb}
 use lib.ListN.{length, getD}
@@ -21,6 +21,14 @@ dueAt sheet n = getD (dues (countsIn sheet)) n noDue
 -- there is a block n: length, head and block count are not refused, and the place is not past the last block
 unfoldable pub there : List ℕ → ℕ → Bool
 there sheet n = eqb (refusal (openTable sheet) .code) 0 && ltb n (length (dues (countsIn sheet)))
+
+-- there is no block n
+abbrev pub pastEnd : List ℕ → ℕ → Bool
+pastEnd sheet n = not (there sheet n)
+
+-- the place of the block after n; a place where there is no block stays
+unfoldable pub nextPlace : List ℕ → ℕ → ℕ
+nextPlace sheet n = cond (there sheet n) (n + 1) n
 
 -- nothing is wrong with block n
 unfoldable pub sound : List ℕ → ℕ → Bool

@@ -10,7 +10,7 @@ use lib.ListN.{length}
 use Rattle.packing.specs.Put.{put, Putting, putting-start, putting-more, putting-end}
 use Rattle.refusals.specs.declared.Refusal.{Refusal}
 use Rattle.refusals.specs.Table.{Row, refused, whole, planTable, planRefusal}
-use Rattle.refusals.specs.Passed.{passed}
+use Rattle.refusals.specs.Passed.{passed, first-given, front-given, front-passed}
 use Rattle.blocks.specs.Block.{blockLength}
 use Rattle.blocks.specs.Section.{blocksOf}
 use Rattle.sheet.specs.declared.Counts.{Counts}
@@ -25,7 +25,6 @@ use Rattle.sheet.specs.BySection.{workloadFirst, edgeFirst, constraintFi
 use Rattle.sheet.specs.Accepted.{writing-none}
 use Rattle.sheet.specs.Records.{put-front}
 use Rattle.sheet.specs.ReadLaws.{HasBlocks}
-use Rattle.sheet.specs.Tables.{first-given, front-given, front-passed}
 
 -- what a refused writing answers
 abbrev pub refusedAnswer : Refusal → Written

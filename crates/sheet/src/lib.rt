@@ -1,8 +1,4 @@
 // The first sheet: a plan and its colouring as bytes.
-ghost use mathlib.Core.Path.{_≡_};
-ghost use Prim.Native.Nat.{_≤_};
-ghost use lib.ListN.{length};
-ghost use Rattle.sheet.specs.Reading.{over};
 
 mod form; // form.rt: the letters, the kinds of blocks in order, and what they hold
 mod opening; // opening.rt: the length, the head and the number of blocks
@@ -36,16 +32,4 @@ pub struct Written {
     pub code: u64,
     pub place: u64,
     pub bytes: u64,
-}
-
-// Puts `held` down at the front of a list; what lies beyond stays.
-fn copy_front(held: &[u64], list: &mut [u64])
-    requires { ⌜ length (now held) ≤ length (now list) ⌝ }
-    ensures { λ _. ⌜ now (list .exit) ≡ over (now (held .entry)) (now (list .entry)) ⌝ }
-{
-    let mut i = 0;
-    while i < held.len() {
-        list[i] = held[i];
-        i += 1;
-    }
 }

@@ -14,7 +14,6 @@ ghost use Rattle.sheet.specs.ReadLaws.{refusedAnswer, enough, lastRows, 
 ghost use Rattle.sheet.specs.BySection.{workloadsAt, edgesAt, constraintsAt, colouringAt};
 use crate::Counts;
 use crate::Read;
-use crate::copy_front;
 use crate::form::CONSTRAINT_BYTES;
 use crate::form::CONSTRAINT_WIDTHS;
 use crate::form::EDGE_BYTES;
@@ -40,6 +39,7 @@ use crate::opening::open_refusal;
 use crate::turning::turn;
 use blocks::faults::first_fault;
 use blocks::reading::read_section;
+use lists::copy;
 use refusals::Refusal;
 use refusals::plan_refusal;
 use terms::limits::CONSTRAINT_LENGTH;
@@ -242,10 +242,10 @@ fn hand_over(
     if refusal.code != 0 {
         return refused(refusal);
     }
-    copy_front(held_workloads, workloads);
-    copy_front(held_edges, edges);
-    copy_front(held_constraints, constraints);
-    copy_front(held_colouring, colouring);
+    copy(held_workloads, workloads);
+    copy(held_edges, edges);
+    copy(held_constraints, constraints);
+    copy(held_colouring, colouring);
     Read {
         code: 0,
         place: 0,

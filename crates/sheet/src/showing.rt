@@ -1,7 +1,7 @@
-// The used payload of a block, as that part of the sheet.
+// The blocks of a sheet: whether there is one at a place, and its used payload, as that part of the sheet.
 ghost use mathlib.Core.Path.{_≡_};
 ghost use mathlib.Core.List.{[]};
-ghost use Rattle.sheet.specs.Showing.{Promise};
+ghost use Rattle.sheet.specs.Showing.{pastEnd, nextPlace, Promise};
 use crate::form::LETTERS;
 use crate::form::all_blocks;
 use crate::form::due_of;
@@ -16,19 +16,35 @@ fn empty_part(sheet: &[u8]) -> &[u8]
     &sheet[0..0]
 }
 
+// Whether there is no block at a place, from 0: none is past the last one, nor anywhere in a sheet whose length, head or block count is refused.
+pub fn past_end(sheet: &[u8], number: usize) -> bool
+    ensures { λ r. ⌜ r ≡ pastEnd (now (sheet .entry)) number ⌝ }
+{
+    let refusal = open_refusal(sheet);
+    if refusal.code != 0 {
+        return true;
+    }
+    number >= all_blocks(counts_in(sheet))
+}
+
+// The place after a block; one where there is no block stays.
+pub fn after(sheet: &[u8], number: usize) -> usize
+    ensures { λ r. ⌜ r ≡ nextPlace (now (sheet .entry)) number ⌝ }
+{
+    if past_end(sheet, number) {
+        return number;
+    }
+    number + 1
+}
+
 // Shows the used payload of a block, from 0; of a block that is refused or not there, an empty part.
 pub fn block(sheet: &[u8], number: usize) -> &[u8]
     ensures { λ r. ⌜ Promise (now (sheet .entry)) number (now r) ⌝ }
 {
-    let refusal = open_refusal(sheet);
-    if refusal.code != 0 {
+    if past_end(sheet, number) {
         return empty_part(sheet);
     }
-    let counts = counts_in(sheet);
-    if number >= all_blocks(counts) {
-        return empty_part(sheet);
-    }
-    let due = due_of(counts, number);
+    let due = due_of(counts_in(sheet), number);
     if block_fault(sheet, &LETTERS, number, due.kind, due.used) != 0 {
         return empty_part(sheet);
     }

@@ -4,7 +4,7 @@ ghost use Prim.Native.Nat.{_≤_};
 ghost use lib.ListN.{length};
 ghost use Rattle.sheet.specs.Form.{turned};
 ghost use Rattle.sheet.specs.Reading.{over};
-use crate::copy_front;
+use lists::copy;
 use terms::limits::CONSTRAINT_LENGTH;
 
 // Turns constraints.
@@ -26,6 +26,6 @@ pub fn copy_turned(constraints: &[u64], list: &mut [u64])
     ensures { λ _. ⌜ now (list .exit) ≡ over (turned (now (constraints .entry))) (now (list .entry)) ⌝ }
 {
     let numbers = constraints.len();
-    copy_front(constraints, list);
+    copy(constraints, list);
     turn(&mut list[..numbers]);
 }

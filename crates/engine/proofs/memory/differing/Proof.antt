@@ -3,7 +3,7 @@ use Prim.Native.Nat.{_-_}
 use native.Mathlib.Omega.{arith}
 use borrow.Author.Needs.{needs}
 use lib.ListN.{length}
-use Rattle.engine.specs.Copied.{Compared, compared-start, compared-room, compared-turn, compared-end}
+use Rattle.engine.specs.Compared.{Compared, compared-start, compared-room, compared-turn, compared-end}
 use Rattle.engine.proofs.memory.differing.Statement.{statement}
 use Rattle.engine.proofs.memory.differing.Tie as tie
 

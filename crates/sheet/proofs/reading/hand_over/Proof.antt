@@ -29,17 +29,17 @@ returns c =
     let h = c .before .before .before in
     promise-unheld _ (began h .pre) (h .before .room-right .ensures) (h .held-refusal .ensures) (c .before .if1 .taken) (c .refused .ensures)
 
-copy-front-requires : tie.Need-copy-front-requires
-copy-front-requires c κs = lent (c .before .before .before) (c .before .if1 .left) .workloads-room
+copy-requires : tie.Need-copy-requires
+copy-requires c κs = lent (c .before .before .before) (c .before .if1 .left) .workloads-room
 
-copy-front-requires-2 : tie.Need-copy-front-requires-2
-copy-front-requires-2 c κs = lent (c .before .before .before .before .before .before .before) (c .before .before .before .before .before .if1 .left) .edges-room
+copy-requires-2 : tie.Need-copy-requires-2
+copy-requires-2 c κs = lent (c .before .before .before .before .before .before .before) (c .before .before .before .before .before .if1 .left) .edges-room
 
-copy-front-requires-3 : tie.Need-copy-front-requires-3
-copy-front-requires-3 c κs = lent (c .before .before .before .before .before .before .before .before .before .before .before) (c .before .before .before .before .before .before .before .before .before .if1 .left) .constraints-room
+copy-requires-3 : tie.Need-copy-requires-3
+copy-requires-3 c κs = lent (c .before .before .before .before .before .before .before .before .before .before .before) (c .before .before .before .before .before .before .before .before .before .if1 .left) .constraints-room
 
-copy-front-requires-4 : tie.Need-copy-front-requires-4
-copy-front-requires-4 c κs = lent (c .before .before .before .before .before .before .before .before .before .before .before .before .before .before .before) (c .before .before .before .before .before .before .before .before .before .before .before .before .before .if1 .left) .colouring-room
+copy-requires-4 : tie.Need-copy-requires-4
+copy-requires-4 c κs = lent (c .before .before .before .before .before .before .before .before .before .before .before .before .before .before .before) (c .before .before .before .before .before .before .before .before .before .before .before .before .before .if1 .left) .colouring-room
 
 same-length : tie.Need-same-length
 same-length c = search needs
@@ -56,7 +56,7 @@ same-length-4 c = search needs
 returns-2 : tie.Need-returns-2
 returns-2 c =
     let h = c .before .before .before .before .before .before .before .before .before .before .before .before .before .before .before .before .before .before in
-    promise-held _ (began h .pre) (h .before .room-right .ensures) (h .held-refusal .ensures) (c .before .before .before .before .before .before .before .before .before .before .before .before .before .before .before .before .if1 .left) (c .before .before .before .before .before .before .before .before .before .before .before .before .before .before .copy-front .ensures) (c .before .before .before .before .before .before .before .before .before .before .copy-front2 .ensures) (c .before .before .before .before .before .before .copy-front3 .ensures) (c .before .before .copy-front4 .ensures)
+    promise-held _ (began h .pre) (h .before .room-right .ensures) (h .held-refusal .ensures) (c .before .before .before .before .before .before .before .before .before .before .before .before .before .before .before .before .if1 .left) (c .before .before .before .before .before .before .before .before .before .before .before .before .before .before .copy .ensures) (c .before .before .before .before .before .before .before .before .before .before .copy2 .ensures) (c .before .before .before .before .before .before .copy3 .ensures) (c .before .before .copy4 .ensures)
 
 pub hand-over-spec : {M : Type 1} → statement M
 hand-over-spec =
@@ -66,10 +66,10 @@ hand-over-spec =
     held-refusal-requires
     refused-requires
     returns
-    copy-front-requires
-    copy-front-requires-2
-    copy-front-requires-3
-    copy-front-requires-4
+    copy-requires
+    copy-requires-2
+    copy-requires-3
+    copy-requires-4
     same-length
     same-length-2
     same-length-3

@@ -7,14 +7,14 @@ use borrow.Author.Needs.{needs}
 use Rattle.sheet.proofs.turning.copy_turned.Statement.{statement}
 use Rattle.sheet.proofs.turning.copy_turned.Tie as tie
 
-copy-front-requires : tie.Need-copy-front-requires
-copy-front-requires c κs = search needs
+copy-requires : tie.Need-copy-requires
+copy-requires c κs = search needs
 
 slice-relend-prefix-turn : tie.Need-slice-relend-prefix-turn
 slice-relend-prefix-turn c = search needs
 
 slice-aggregate-turn : tie.Need-slice-aggregate-turn
-slice-aggregate-turn c = sym (length-take-le _ _ (omega (arith, c .before .before .before .copy-front .kept .1 .0, c .before .before .before .before .before .before .before .pre)))
+slice-aggregate-turn c = sym (length-take-le _ _ (omega (arith, c .before .before .before .copy .kept .1 .0, c .before .before .before .before .before .before .before .pre)))
 
 turn-requires : tie.Need-turn-requires
 turn-requires c κs = search needs
@@ -25,13 +25,13 @@ same-length c = search needs
 returns : tie.Need-returns
 returns c =
     let a = c .before .before .before .before .before .before .before .before .before .before .args in
-    turned-front (a .constraints .now) (a .list .now) (c .before .before .before .before .before .before .copy-front .ensures) refl (c .before .before .turn .ensures)
+    turned-front (a .constraints .now) (a .list .now) (c .before .before .before .before .before .before .copy .ensures) refl (c .before .before .turn .ensures)
 
 pub copy-turned-spec : {M : Type 1} → statement M
 copy-turned-spec =
     tie.close
     (tie.spec
-    copy-front-requires
+    copy-requires
     slice-relend-prefix-turn
     slice-aggregate-turn
     turn-requires

@@ -1,0 +1,35 @@
+-- What judging a sheet leaves: the answer, and the constraints and verdicts in the lent lists.
+-- Assumes nothing.
+use Prim.Native.Nat.{ℕ, _/_}
+use mathlib.Core.Path.{_≡_}
+use mathlib.Core.List.{List}
+use lib.ListN.{length}
+use Rattle.meaning.specs.Plan.{constraintLength}
+use Rattle.meaning.specs.Kinds.{total}
+use Rattle.meaning.specs.Moves.{verdicts}
+use Rattle.sheet.specs.Reading.{over}
+use Rattle.judgement.specs.declared.Judged.{Judged}
+use Rattle.judgement.specs.Judgement.{Judgement, judgement, code, place, totalOf, constraintCount, Promise}
+
+-- the numbers of a judgement: code and place of its refusal, how many constraints it has, and its total
+abbrev pub numbers : Judgement → Judged
+numbers j =
+    record {
+      code = j .refusal .code;
+      place = j .refusal .place;
+      constraints = length (j .constraints) / constraintLength;
+      total = j .total;
+    }
+
+-- the answer is the numbers of a sheet's judgement, and its constraints and verdicts stand at the fronts of the lent lists
+pub record Leaves (sheet constraints verdicts : List ℕ) (answer : Judged) (constraints′ verdicts′ : List ℕ) : Type 0 where
+  pub answered : answer ≡ numbers (judgement sheet)
+  pub constraints-left : constraints′ ≡ over (judgement sheet .constraints) constraints
+  pub verdicts-left : verdicts′ ≡ over (judgement sheet .verdicts) verdicts
+
+-- each number of the answer is the one that is promised of the sheet
+pub record Told (sheet : List ℕ) (answer : Judged) : Type 0 where
+  pub code-told : Promise (code sheet) (answer .code)
+  pub place-told : Promise (place sheet) (answer .place)
+  pub constraints-told : Promise (constraintCount sheet) (answer .constraints)
+  pub total-told : Promise (totalOf sheet) (answer .total)

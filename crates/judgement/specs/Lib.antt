@@ -1,0 +1,8 @@
+pub mod Judgement
+pub mod Judged
+pub mod NoMoves
+pub mod LargestLists
+pub mod JudgedLaws
+pub mod Fronts
+pub mod Printing
+pub mod SheetA

@@ -1,0 +1,71 @@
+-- A call without moves on contents that are not refused: nothing of it is refused, and it leaves the verdicts on them and their total.
+-- Assumes nothing.
+use Prim.Native.Nat.{ℕ, _+_, _*_, _/_, _≤_}
+use native.Mathlib.Omega.{arith}
+use mathlib.Core.Path.{_≡_, refl, sym, ap, _∙_}
+use mathlib.Core.Bool.{false}
+use mathlib.Core.List.{List, [], _∷_, _++_}
+use borrow.Author.Tests.{le-leb}
+use lib.IntN.{ℤ}
+use lib.ListN.{length, drop}
+use Rattle.lists.specs.SumLaws.{every-append}
+use Rattle.lists.specs.ListLaws.{length-listOf}
+use Rattle.meaning.specs.Plan.{Constraint, Plan, constraintLength, constraintAt, constraintsOf, mostRegions, mostSectors, mostConstraints}
+use Rattle.meaning.specs.Moves.{verdictLength, movesOf, last, verdict, verdictsOf}
+use Rattle.refusals.specs.Table.{Row, none, planTable, roomTable, callTable, callRefusal, planRefusal}
+use Rattle.refusals.specs.Passed.{Passed, passed, passed-none}
+use Rattle.call.specs.Promise.{Input, Outcome, given, ran, outcome, Promise, is-outcome, input}
+use Rattle.sheet.specs.Form.{Contents}
+use Rattle.sheet.specs.Reading.{contentsRefusal, over}
+use Rattle.sheet.specs.ContentsLaws.{valid-contents, limits-valid}
+use Rattle.judgement.specs.Judgement.{planHeld, verdictsHeld, totalHeld}
+
+-- ---- how many verdicts there are
+
+-- two numbers for each constraint
+length-each : (P : Plan) (col : List ℕ) (ks : List Constraint) → length (verdictsOf P col ks) ≡ verdictLength * length ks
+unfolding verdictsOf verdict
+length-each P col [] = refl
+length-each P col (k ∷ ks) = omega (arith, length-each P col ks)
+
+-- and so for each of the flat list
+pub length-verdicts : (k : Contents) → length (verdictsHeld k) ≡ verdictLength * (length (k .constraints) / constraintLength)
+unfolding constraintsOf
+length-verdicts k =
+    length-each (planHeld k) (k .colouring) (constraintsOf (k .constraints))
+    ∙ rw (length-listOf (length (k .constraints) / constraintLength) (constraintAt (k .constraints)))
+
+-- ---- the call
+
+module _ (k : Contents) (rows : List ℤ) (lent work : List ℕ) where
+  -- what it is given
+  abbrev pub asked : Input
+  asked = input (k .R) (k .S) (k .workloads) (k .edges) (k .constraints) (k .colouring) [] rows lent work
+
+  planRows : List Row
+  planRows = planTable (k .R) (k .S) (k .workloads) (k .edges) (k .constraints) (k .colouring)
+
+  roomRows : List Row
+  roomRows = roomTable (k .R) (k .S) (k .constraints) [] (length rows) (length lent) (length work)
+
+  module _ (z : contentsRefusal k .code ≡ 0) (v : verdictLength * mostConstraints ≤ length lent) (w : mostRegions + 2 * mostSectors + 1 ≤ length work) where
+    -- there is room for the verdicts and for the work memory, and none is needed for rows
+    passed-room : Passed roomRows
+    unfolding roomTable roomRows
+    passed-room =
+        let l = limits-valid k (valid-contents k z) in
+        let of-verdicts = le-leb (verdictLength * (length (k .constraints) / constraintLength)) (length lent) (omega (arith, l .constraints .high)) in
+        let of-work = le-leb (k .R + 2 * k .S + 1) (length work) (omega (arith, l .regions .high, l .sectors .high)) in
+        (refl, (rw (le-leb 0 (length rows) (omega arith)), (rw of-verdicts, (rw of-work, tt))))
+
+    -- nothing is refused
+    not-refused : callRefusal (given asked) ≡ none
+    unfolding planTable planRefusal callTable callRefusal planRows roomRows
+    not-refused = passed-none (planRows ++ roomRows) (every-append (λ r. r .given ≡ false) planRows roomRows (passed planRows tt z) passed-room)
+
+    -- the total is that of the colouring, and the verdicts on it stand at the front of the lent list
+    pub judges : {o : Outcome} → Promise asked o → (o .answer .last ≡ totalHeld k) × (o .verdicts ≡ over (verdictsHeld k) lent)
+    unfolding outcome ran movesOf last
+    judges {o} p =
+        let e : o ≡ ran asked = is-outcome p ∙ rw not-refused in
+        rw e (refl, ap (λ (n : ℕ). verdictsHeld k ++ drop n lent) (sym (length-verdicts k)))
