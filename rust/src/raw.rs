@@ -1,6 +1,34 @@
 //! The functions of `libscreen.a` as they are called: a slice is a pointer and a length.
 
-use crate::Answer;
+use super::Constraint;
+
+/// What a call with moves answers.
+#[repr(C)]
+pub struct CallAnswer {
+    pub code: u64,
+    pub place: u64,
+    pub first: u64,
+    pub last: u64,
+}
+
+/// What reading a sheet answers.
+#[repr(C)]
+pub struct ReadAnswer {
+    pub code: u64,
+    pub place: u64,
+    pub regions: u64,
+    pub sectors: u64,
+    pub edges: u64,
+    pub constraints: u64,
+}
+
+/// What writing a sheet answers.
+#[repr(C)]
+pub struct WriteAnswer {
+    pub code: u64,
+    pub place: u64,
+    pub bytes: u64,
+}
 
 extern "C" {
     pub fn sctr_call(
@@ -22,5 +50,76 @@ extern "C" {
         verdicts_len: usize,
         work: *mut u64,
         work_len: usize,
-    ) -> Answer;
+    ) -> CallAnswer;
+
+    pub fn sctr_call_records(
+        regions: u64,
+        sectors: u64,
+        workloads: *const u64,
+        workloads_len: usize,
+        edges: *const u64,
+        edges_len: usize,
+        constraints: *const Constraint,
+        constraints_len: usize,
+        colouring: *mut u64,
+        colouring_len: usize,
+        moves: *const u64,
+        moves_len: usize,
+        rows: *mut i64,
+        rows_len: usize,
+        verdicts: *mut u64,
+        verdicts_len: usize,
+        work: *mut u64,
+        work_len: usize,
+    ) -> CallAnswer;
+
+    pub fn sctr_read(
+        sheet: *const u8,
+        sheet_len: usize,
+        workloads: *mut u64,
+        workloads_len: usize,
+        edges: *mut u64,
+        edges_len: usize,
+        constraints: *mut u64,
+        constraints_len: usize,
+        colouring: *mut u64,
+        colouring_len: usize,
+    ) -> ReadAnswer;
+
+    pub fn sctr_write(
+        regions: u64,
+        sectors: u64,
+        workloads: *const u64,
+        workloads_len: usize,
+        edges: *const u64,
+        edges_len: usize,
+        constraints: *const u64,
+        constraints_len: usize,
+        colouring: *const u64,
+        colouring_len: usize,
+        sheet: *mut u8,
+        sheet_len: usize,
+    ) -> WriteAnswer;
+
+    pub fn sctr_write_records(
+        regions: u64,
+        sectors: u64,
+        workloads: *const u64,
+        workloads_len: usize,
+        edges: *const u64,
+        edges_len: usize,
+        constraints: *const Constraint,
+        constraints_len: usize,
+        colouring: *const u64,
+        colouring_len: usize,
+        sheet: *mut u8,
+        sheet_len: usize,
+    ) -> WriteAnswer;
+
+    pub fn sctr_code(sheet: *const u8, sheet_len: usize) -> u64;
+    pub fn sctr_place(sheet: *const u8, sheet_len: usize) -> u64;
+    pub fn sctr_total(sheet: *const u8, sheet_len: usize) -> u64;
+    pub fn sctr_constraints(sheet: *const u8, sheet_len: usize) -> u64;
+    pub fn sctr_holds(sheet: *const u8, sheet_len: usize, place: u64) -> u64;
+    pub fn sctr_violation(sheet: *const u8, sheet_len: usize, place: u64) -> u64;
 }

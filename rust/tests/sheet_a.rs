@@ -1,4 +1,5 @@
-//! Sheet A and its numbers: every line of document 01, asked of the reference and of the library.
+//! Sheet A and its numbers: every line of document 01, asked of the reference and of the library. The text of `verdicts` is in
+//! `verdicts`.
 
 mod calls;
 mod canary;
@@ -6,9 +7,13 @@ mod cases;
 mod library;
 mod plans;
 mod reference;
+mod sheets;
 
 use calls::{by_archive, by_library, by_reference, Answer, Call, Memory};
+use cases::Memory as _;
 use plans::{sheet_a, Numbers};
+use reference::fletcher;
+use sheets::{numbers_in, reading, writing, Sheet, Writing};
 
 /// The answer to these moves on a plan and what they leave, the same from all.
 fn asked(plan: &Numbers, moves: &[u64]) -> (Answer, Memory) {
@@ -85,4 +90,29 @@ fn refused_numbers() {
     let mut plan = sheet_a();
     plan.edges[3..5].copy_from_slice(&[2, 2]);
     assert_eq!(asked(&plan, &[]).0, [5, 2, 0, 0]);
+}
+
+/// Document 01's line and two more of Fletcher's sums that are widely published.
+#[test]
+fn fletchers_sums() {
+    assert_eq!(fletcher(b"abcde"), [240, 200]);
+    assert_eq!(fletcher(b"abcdef"), [87, 32]);
+    assert_eq!(fletcher(b"abcdefgh"), [39, 6]);
+}
+
+#[test]
+fn the_sheet_itself() {
+    let file = include_bytes!("../../sheets/a.sheet");
+    assert_eq!(Sheet::a().bytes(), file);
+    for read in [reading::by_reference, reading::by_library, reading::by_archive] {
+        assert_eq!(numbers_in(file, read), Ok(sheet_a()));
+    }
+    for write in [writing::by_reference, writing::by_library, writing::by_archive] {
+        let mut memory = writing::Memory::of(&Writing::new(sheet_a()));
+        assert_eq!(write(&mut memory), [0, 0, 2_560]);
+        assert_eq!(memory.sheet.content(), file);
+    }
+    let sheet = library::Sheet::new(file).expect("a good sheet");
+    assert_eq!((sheet.total(), sheet.constraints()), (15, 4));
+    assert_eq!([1, 2, 3, 4].map(|place| (sheet.holds(place), sheet.violation(place))), [(true, 0), (true, 0), (true, 0), (false, 5)]);
 }

@@ -1,4 +1,5 @@
 // The first sheet: a plan and its colouring as bytes.
+use blocks::BLOCK_LENGTH;
 
 mod form; // form.rt: the letters, the kinds of blocks in order, and what they hold
 mod opening; // opening.rt: the length, the head and the number of blocks
@@ -6,6 +7,9 @@ mod turning; // turning.rt: a constraint's weight and limit change places
 pub mod reading; // reading.rt: a sheet into lent lists
 pub mod writing; // writing.rt: lists into lent bytes
 pub mod showing; // showing.rt: the used payload of a block, as that part of the sheet
+
+// The bytes of the longest sheet.
+pub const MOST_BYTES: usize = form::MOST_BLOCKS as usize * BLOCK_LENGTH;
 
 // The numbers of a sheet's head: how many regions, sectors, edges and constraints there are.
 pub struct Counts {

@@ -3,9 +3,10 @@ use judgement::put_text;
 use libc::STDIN_FILENO;
 use libc::STDOUT_FILENO;
 use report::MOST_TEXT;
+use sheet::MOST_BYTES;
 
-// A byte more than the 43 blocks of the longest sheet, so that what is longer is not taken for one.
-const MOST_INPUT: usize = 43 * 512 + 1;
+// A byte more than the longest sheet has, so that what is longer is not taken for one.
+const MOST_INPUT: usize = MOST_BYTES + 1;
 
 fn main() {
     let mut sheet = [0u8; MOST_INPUT];

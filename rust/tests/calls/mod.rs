@@ -3,8 +3,9 @@
 #![allow(dead_code)] // each test file takes its own part
 
 use crate::canary::Lent;
-use crate::cases::{Case, Code};
-use crate::plans::{lower, lower_number, moves, one_less, plan, without, Numbers, Random};
+use crate::cases::{self, compare_all, Case, Code};
+use crate::library::{raw, Constraint};
+use crate::plans::{lower, lower_number, moves, one_less, plan, records, without, Numbers, Random};
 use crate::reference::MOVES;
 use crate::{library, reference};
 
@@ -55,6 +56,7 @@ pub struct Memory {
     workloads: Lent<u64>,
     edges: Lent<u64>,
     constraints: Lent<u64>,
+    records: Lent<Constraint>,
     pub colouring: Lent<u64>,
     pub moves: Lent<u64>,
     pub rows: Lent<i64>,
@@ -71,6 +73,7 @@ impl Memory {
             workloads: Lent::list(workloads),
             edges: Lent::list(edges),
             constraints: Lent::list(constraints),
+            records: Lent::list(&records(constraints)),
             colouring: Lent::list(colouring),
             moves: Lent::list(&call.moves),
             rows: Lent::room(call.rows),
@@ -78,9 +81,10 @@ impl Memory {
             work: Lent::room(call.work),
         }
     }
+}
 
-    /// In words, where this first differs from what is due.
-    pub fn same_as(&self, due: &Self) -> Result<(), String> {
+impl cases::Memory for Memory {
+    fn same_as(&self, due: &Self) -> Result<(), String> {
         self.rows.same_as(&due.rows, "rows")?;
         self.colouring.same_as(&due.colouring, "colouring")?;
         self.verdicts.same_as(&due.verdicts, "verdicts")?;
@@ -88,6 +92,7 @@ impl Memory {
         self.workloads.same_as(&due.workloads, "workloads")?;
         self.edges.same_as(&due.edges, "edges")?;
         self.constraints.same_as(&due.constraints, "constraints")?;
+        self.records.same_as(&due.records, "records")?;
         self.moves.same_as(&due.moves, "moves")
     }
 }
@@ -96,13 +101,13 @@ impl Memory {
 pub type Answer = [u64; 4];
 
 macro_rules! answer {
-    ($side:ident, $memory:ident) => {{
-        let answer = $side::call(
+    ($call:path, $memory:ident, $constraints:ident) => {{
+        let answer = $call(
             $memory.regions,
             $memory.sectors,
             $memory.workloads.slice(),
             $memory.edges.slice(),
-            $memory.constraints.slice(),
+            $memory.$constraints.slice(),
             $memory.colouring.slice(),
             $memory.moves.slice(),
             $memory.rows.slice(),
@@ -117,66 +122,70 @@ macro_rules! answer {
 }
 
 pub fn by_reference(memory: &mut Memory) -> Answer {
-    answer!(reference, memory)
+    answer!(reference::call, memory, constraints)
 }
 
 pub fn by_library(memory: &mut Memory) -> Answer {
-    answer!(library, memory)
+    answer!(library::call, memory, constraints)
+}
+
+pub fn by_library_records(memory: &mut Memory) -> Answer {
+    answer!(library::call_records, memory, records)
+}
+
+macro_rules! archive_answer {
+    ($call:path, $memory:ident, $constraints:ident) => {{
+        let constraints = $memory.$constraints.parts();
+        let rows = $memory.rows.parts();
+        let [workloads, edges, colouring, moves, verdicts, work] = [
+            &mut $memory.workloads,
+            &mut $memory.edges,
+            &mut $memory.colouring,
+            &mut $memory.moves,
+            &mut $memory.verdicts,
+            &mut $memory.work,
+        ]
+        .map(Lent::parts);
+        // SAFETY: each pointer and length is that of one slice, and the slices lie in buffers of their own.
+        let answer = unsafe {
+            $call(
+                $memory.regions,
+                $memory.sectors,
+                workloads.0,
+                workloads.1,
+                edges.0,
+                edges.1,
+                constraints.0,
+                constraints.1,
+                colouring.0,
+                colouring.1,
+                moves.0,
+                moves.1,
+                rows.0,
+                rows.1,
+                verdicts.0,
+                verdicts.1,
+                work.0,
+                work.1,
+            )
+        };
+        [answer.code, answer.place, answer.first, answer.last]
+    }};
 }
 
 /// The archive's own answer, which shows that a place or totals that don't apply are 0.
 pub fn by_archive(memory: &mut Memory) -> Answer {
-    let [workloads, edges, constraints, colouring, moves, verdicts, work] = [
-        &mut memory.workloads,
-        &mut memory.edges,
-        &mut memory.constraints,
-        &mut memory.colouring,
-        &mut memory.moves,
-        &mut memory.verdicts,
-        &mut memory.work,
-    ]
-    .map(|lent| (lent.slice().as_mut_ptr(), lent.slice().len()));
-    let rows = memory.rows.slice();
-    // SAFETY: each pointer and length is that of one slice, and the slices lie in buffers of their own.
-    let answer = unsafe {
-        library::sctr_call(
-            memory.regions,
-            memory.sectors,
-            workloads.0,
-            workloads.1,
-            edges.0,
-            edges.1,
-            constraints.0,
-            constraints.1,
-            colouring.0,
-            colouring.1,
-            moves.0,
-            moves.1,
-            rows.as_mut_ptr(),
-            rows.len(),
-            verdicts.0,
-            verdicts.1,
-            work.0,
-            work.1,
-        )
-    };
-    [answer.code, answer.place, answer.first, answer.last]
+    archive_answer!(raw::sctr_call, memory, constraints)
+}
+
+pub fn by_archive_records(memory: &mut Memory) -> Answer {
+    archive_answer!(raw::sctr_call_records, memory, records)
 }
 
 /// The code of the call, or in words where one of those under test first differs from the reference.
 pub fn compare(call: &Call, under_test: &[fn(&mut Memory) -> Answer]) -> Result<Code, String> {
-    let before = Memory::of(call);
-    let mut due = before.clone();
-    let answer_due = by_reference(&mut due);
-    for answered in under_test {
-        let mut left = before.clone();
-        let answer = answered(&mut left);
-        if answer != answer_due {
-            return Err(format!("the library answers {answer:?}, document 01 asks for {answer_due:?}"));
-        }
-        left.same_as(&due)?;
-    }
-    Ok((answer_due[0], None))
+    let answer = compare_all(&Memory::of(call), by_reference, under_test)?;
+    Ok((answer[0], None))
 }
 
 impl Case for Call {

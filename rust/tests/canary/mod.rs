@@ -2,6 +2,7 @@
 
 #![allow(dead_code)] // each test file takes its own part
 
+use crate::library::Constraint;
 use std::fmt::Debug;
 
 /// As many numbers on either side; odd, so that lent bytes start at an odd address.
@@ -24,6 +25,13 @@ macro_rules! number {
 
 number!(u8 u64 i64);
 
+impl Number for Constraint {
+    fn noise(place: usize) -> Self {
+        let [kind, relation, limit, weight] = [0, 1, 2, 3].map(|field| u64::noise(4 * place + field));
+        Constraint { kind, relation, limit, weight }
+    }
+}
+
 #[derive(Clone)]
 pub struct Lent<T> {
     buffer: Vec<T>,
@@ -44,6 +52,12 @@ impl<T: Number> Lent<T> {
     pub fn slice(&mut self) -> &mut [T] {
         let end = self.buffer.len() - MARGIN;
         &mut self.buffer[MARGIN..end]
+    }
+
+    /// The pointer and the length that the slice is handed over as.
+    pub fn parts(&mut self) -> (*mut T, usize) {
+        let slice = self.slice();
+        (slice.as_mut_ptr(), slice.len())
     }
 
     pub fn content(&self) -> &[T] {

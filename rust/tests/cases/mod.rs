@@ -1,7 +1,8 @@
 //! Runs many cases, tells which codes they met, and shrinks the first that shows a difference.
 //!
-//! `QIRFADHUN_CASES` sets how many cases a random test runs, `QIRFADHUN_SEED` the seed. Each case has a seed of its own, one more
-//! than the case before it; a failure names it, and `QIRFADHUN_CASES=1` with that seed runs it alone.
+//! `QIRFADHUN_SEED` sets the seed of the random tests, `QIRFADHUN_PERCENT` how many of their usual cases they run, and
+//! `QIRFADHUN_CASES` how many each of them runs. Each case has a seed of its own, one more than the case before it; a failure names
+//! it, and `QIRFADHUN_CASES=1` with that seed runs it alone.
 
 #![allow(dead_code)] // each test file takes its own part
 
@@ -25,10 +26,36 @@ pub trait Case: Clone + Debug {
     fn smaller(&self) -> Box<dyn Iterator<Item = Self> + '_>;
 }
 
+/// All memory that is lent to a call, each slice guarded.
+pub trait Memory: Clone {
+    /// In words, where this first differs from what is due.
+    fn same_as(&self, due: &Self) -> Result<(), String>;
+}
+
+/// What the reference answers, or in words where one of those under test first differs from it in its answer or in what it leaves.
+pub fn compare_all<M: Memory, A: PartialEq + Debug>(
+    before: &M,
+    by_reference: fn(&mut M) -> A,
+    under_test: &[fn(&mut M) -> A],
+) -> Result<A, String> {
+    let mut due = before.clone();
+    let answer_due = by_reference(&mut due);
+    for answered in under_test {
+        let mut left = before.clone();
+        let answer = answered(&mut left);
+        if answer != answer_due {
+            return Err(format!("the library answers {answer:?}, document 01 asks for {answer_due:?}"));
+        }
+        left.same_as(&due)?;
+    }
+    Ok(answer_due)
+}
+
 /// Compares cases that `make` builds, `default` of them unless the environment says otherwise.
 pub fn random_cases<C: Case>(name: &str, default: u64, make: impl Fn(&mut Random) -> C) {
     let seed = from_environment("QIRFADHUN_SEED").unwrap_or(SEED);
-    let count = from_environment("QIRFADHUN_CASES").unwrap_or(default);
+    let percent = from_environment("QIRFADHUN_PERCENT").unwrap_or(100);
+    let count = from_environment("QIRFADHUN_CASES").unwrap_or((default * percent).div_ceil(100));
     println!("{name}: QIRFADHUN_SEED={seed} QIRFADHUN_CASES={count}");
     let seeds = (0..count).map(|case| seed.wrapping_add(case));
     run(name, seeds.map(|seed| (make(&mut Random::new(seed)), format!(", QIRFADHUN_SEED={seed} QIRFADHUN_CASES=1"))));

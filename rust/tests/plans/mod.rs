@@ -7,6 +7,7 @@ mod refused;
 mod smaller;
 mod wild;
 
+use crate::library::Constraint;
 use crate::reference::*;
 pub use random::Random;
 pub use refused::{damaged, Damage, PLAN_DAMAGES};
@@ -31,6 +32,12 @@ impl Numbers {
     pub fn lists(&self) -> [&Vec<u64>; 4] {
         [&self.workloads, &self.edges, &self.constraints, &self.colouring]
     }
+}
+
+/// The constraints of a list of four numbers each, as records.
+pub fn records(constraints: &[u64]) -> Vec<Constraint> {
+    let record = |four: &[u64]| Constraint { kind: four[0], relation: four[1], limit: four[2], weight: four[3] };
+    constraints.chunks_exact(4).map(record).collect()
 }
 
 pub fn sheet_a() -> Numbers {

@@ -3,11 +3,17 @@
 
 #![allow(dead_code, unused_imports)] // each test file takes its own part
 
+mod blocks;
 mod call;
 mod limits;
 mod meaning;
 mod plan;
+mod sheet;
+mod verdicts;
 
+pub use blocks::fletcher;
 pub use call::{call, Totals};
 pub use limits::*;
 pub use plan::{Plan, Refusal};
+pub use sheet::{lay_out, read, write};
+pub use verdicts::Verdicts;

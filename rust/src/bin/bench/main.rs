@@ -1,9 +1,11 @@
 //! Nanoseconds a move of the proved library, of the baseline and of the library's own method in plain Rust, on the same plans and
-//! lists, one after the other in one run. The rows of all three are compared.
+//! lists, one after the other in one run. The rows of all three are compared. After them the reading and the writing of a sheet.
 
 mod baseline;
+mod plain_sheet;
 mod plans;
 mod same_method;
+mod sheets;
 
 use plans::{Plan, Random};
 use std::time::Instant;
@@ -118,4 +120,5 @@ fn main() {
         let name = format!("{} regions in {sectors} sectors, probes without the call's start", height * width);
         print(&name, "ns a move", times, LIST);
     }
+    sheets::print_all();
 }

@@ -1,6 +1,7 @@
 //! What is measured on: grids of regions numbered at random, with sectors grown from seeds, and moves as a search proposes them.
 
 /// A plan and a colouring of it, as the call takes them.
+#[derive(PartialEq)]
 pub struct Plan {
     pub regions: u64,
     pub sectors: u64,

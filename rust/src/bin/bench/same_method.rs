@@ -53,40 +53,51 @@ fn records(list: &[u64], width: usize, low: u64, high: u64) -> bool {
     list.len().is_multiple_of(width) && within(low, (list.len() / width) as u64, high)
 }
 
+/// Codes 1 to 8.
+pub fn plan_refusal(
+    regions: u64,
+    sectors: u64,
+    workloads: &[u64],
+    edges: &[u64],
+    constraints: &[u64],
+    colouring: &[u64],
+) -> Result<(), Refused> {
+    unless(within(1, regions, 512), 1)?;
+    unless(within(1, sectors, 64), 2)?;
+    unless(workloads.len() as u64 == regions, 3)?;
+    each(3, workloads.iter().map(|&w| w <= 1_000_000))?;
+    unless(records(edges, 3, 0, 2048), 4)?;
+    let mut before = (0, 0);
+    each(
+        5,
+        edges.chunks(3).map(|e| {
+            let right = 1 <= e[0] && e[0] < e[1] && e[1] <= regions && within(1, e[2], 1_000_000) && before < (e[0], e[1]);
+            before = (e[0], e[1]);
+            right
+        }),
+    )?;
+    unless(records(constraints, 4, 1, 16), 6)?;
+    each(
+        7,
+        constraints.chunks(4).map(|q| {
+            within(1, q[0], 4)
+                && within(1, q[1], 6)
+                && (q[0] == 1 || q[0] == 4 || q[1] == 1)
+                && q[2] <= 100_000_000_000
+                && within(1, q[3], 1000)
+        }),
+    )?;
+    unless(colouring.len() as u64 == regions, 8)?;
+    each(8, colouring.iter().map(|&c| within(1, c, sectors)))
+}
+
 impl Call<'_> {
     fn refusal(&self) -> Result<(), Refused> {
-        let (regions, sectors) = (self.regions, self.sectors);
-        unless(within(1, regions, 512), 1)?;
-        unless(within(1, sectors, 64), 2)?;
-        unless(self.workloads.len() as u64 == regions, 3)?;
-        each(3, self.workloads.iter().map(|&w| w <= 1_000_000))?;
-        unless(records(self.edges, 3, 0, 2048), 4)?;
-        let mut before = (0, 0);
-        each(
-            5,
-            self.edges.chunks(3).map(|e| {
-                let right = 1 <= e[0] && e[0] < e[1] && e[1] <= regions && within(1, e[2], 1_000_000) && before < (e[0], e[1]);
-                before = (e[0], e[1]);
-                right
-            }),
-        )?;
-        unless(records(self.constraints, 4, 1, 16), 6)?;
-        each(
-            7,
-            self.constraints.chunks(4).map(|q| {
-                within(1, q[0], 4)
-                    && within(1, q[1], 6)
-                    && (q[0] == 1 || q[0] == 4 || q[1] == 1)
-                    && q[2] <= 100_000_000_000
-                    && within(1, q[3], 1000)
-            }),
-        )?;
-        unless(self.colouring.len() as u64 == regions, 8)?;
-        each(8, self.colouring.iter().map(|&c| within(1, c, sectors)))?;
+        plan_refusal(self.regions, self.sectors, self.workloads, self.edges, self.constraints, self.colouring)?;
         unless(records(self.moves, 3, 0, 4096), 9)?;
         unless(4 * (self.moves.len() / 3) <= self.rows.len(), 10)?;
         unless(2 * (self.constraints.len() / 4) <= self.verdicts.len(), 11)?;
-        unless((regions + 2 * sectors + 1) as usize <= self.work.len(), 12)
+        unless((self.regions + 2 * self.sectors + 1) as usize <= self.work.len(), 12)
     }
 }
 

@@ -1,0 +1,189 @@
+//! A small planning screen: prints a sheet's verdicts by place, with a sentence for each, and tries a short list of moves.
+//!
+//! `cargo run --example screen ../sheets/a.sheet`
+
+use qirfadhun::limits::{MOST_CONSTRAINTS, MOST_EDGES, MOST_REGIONS};
+use qirfadhun::{Refusal, Sheet};
+use std::process::ExitCode;
+
+fn main() -> ExitCode {
+    let Some(path) = std::env::args().nth(1) else {
+        eprintln!("usage: screen SHEET");
+        return ExitCode::FAILURE;
+    };
+    let bytes = match std::fs::read(&path) {
+        Ok(bytes) => bytes,
+        Err(error) => {
+            eprintln!("{path}: {error}");
+            return ExitCode::FAILURE;
+        }
+    };
+    match show(&bytes) {
+        Ok(()) => ExitCode::SUCCESS,
+        Err(refusal) => {
+            println!("{refusal}: {}", reason(refusal));
+            ExitCode::FAILURE
+        }
+    }
+}
+
+fn show(bytes: &[u8]) -> Result<(), Refusal> {
+    let sheet = Sheet::new(bytes)?;
+    let mut plan = Plan::read(bytes)?;
+    print_verdicts(&sheet, &plan);
+    try_moves(&mut plan)
+}
+
+/// What a sheet stores, in lists as long as it needs them.
+struct Plan {
+    regions: u64,
+    sectors: u64,
+    workloads: Vec<u64>,
+    edges: Vec<u64>,
+    constraints: Vec<u64>,
+    colouring: Vec<u64>,
+}
+
+impl Plan {
+    fn read(bytes: &[u8]) -> Result<Self, Refusal> {
+        let (mut workloads, mut edges) = (vec![0; MOST_REGIONS], vec![0; 3 * MOST_EDGES]);
+        let (mut constraints, mut colouring) = (vec![0; 4 * MOST_CONSTRAINTS], vec![0; MOST_REGIONS]);
+        let head = qirfadhun::read(bytes, &mut workloads, &mut edges, &mut constraints, &mut colouring)?;
+        workloads.truncate(head.regions as usize);
+        edges.truncate(3 * head.edges as usize);
+        constraints.truncate(4 * head.constraints as usize);
+        colouring.truncate(head.regions as usize);
+        Ok(Plan { regions: head.regions, sectors: head.sectors, workloads, edges, constraints, colouring })
+    }
+
+    fn sector(&self, region: u64) -> u64 {
+        self.colouring[region as usize - 1]
+    }
+}
+
+fn print_verdicts(sheet: &Sheet, plan: &Plan) {
+    println!("place  kind  weight  holds  violation");
+    for (place, four) in (1..).zip(plan.constraints.chunks(4)) {
+        let (kind, relation, limit, weight) = (four[0], four[1], four[2], four[3]);
+        let holds = if sheet.holds(place) { "yes" } else { "no" };
+        let violation = sheet.violation(place);
+        println!("{place:5}  {kind:4}  {weight:6}  {holds:5}  {violation:9}  {}", sentence(place, kind, relation, limit));
+    }
+    println!("The total is {}.", sheet.total());
+}
+
+/// What a constraint asks for.
+fn sentence(place: u64, kind: u64, relation: u64, limit: u64) -> String {
+    let bound = bound(relation, limit);
+    match kind {
+        1 => format!("Constraint {place}: no sector has more than one component, and the components are {bound} in all."),
+        2 => format!("Constraint {place}: the area of the edges between different sectors is {bound} in all."),
+        3 => format!(
+            "Constraint {place}: how far the workload of each sector is from the average, times the number of sectors, \
+             is {bound} in all."
+        ),
+        _ => format!("Constraint {place}: the workload of every sector is {bound}."),
+    }
+}
+
+fn bound(relation: u64, limit: u64) -> String {
+    match relation {
+        1 => format!("at most {limit}"),
+        2 => format!("below {limit}"),
+        3 => format!("exactly {limit}"),
+        4 => format!("anything but {limit}"),
+        5 => format!("above {limit}"),
+        _ => format!("at least {limit}"),
+    }
+}
+
+/// Takes a short list of moves across a border, where the plan has one, and prints their rows.
+fn try_moves(plan: &mut Plan) -> Result<(), Refusal> {
+    let mut ends = plan.edges.chunks(3).map(|edge| (edge[0], edge[1]));
+    let (a, b) = ends.find(|&(a, b)| plan.sector(a) != plan.sector(b)).unwrap_or((1, plan.regions));
+    let sector = plan.sector(b);
+    let moves = [[1, a, sector], [3, a, b], [5, a, 0], [4, a, b], [2, b, sector], [1, plan.regions + 1, sector]];
+    let mut rows = [0; 4 * 6];
+    let mut verdicts = vec![0; plan.constraints.len() / 2];
+    let mut work = vec![0; (plan.regions + 2 * plan.sectors + 1) as usize];
+    qirfadhun::call(
+        plan.regions,
+        plan.sectors,
+        &plan.workloads,
+        &plan.edges,
+        &plan.constraints,
+        &mut plan.colouring,
+        moves.as_flattened(),
+        &mut rows,
+        &mut verdicts,
+        &mut work,
+    )?;
+    for (three, row) in moves.iter().zip(rows.chunks(4)) {
+        println!("{}", row_in_words(*three, row));
+    }
+    Ok(())
+}
+
+fn row_in_words([kind, first, second]: [u64; 3], row: &[i64]) -> String {
+    let (status, delta, total, relabelled) = (row[0], row[1], row[2], row[3]);
+    let asked = match kind {
+        1 | 2 => format!("region {first} to sector {second}"),
+        3 | 4 => format!("regions {first} and {second} exchanged"),
+        _ => format!("region {first}"),
+    };
+    match (status, kind) {
+        (0, 1 | 3) => format!("Tried, {asked}: the total would {}.", change(delta)),
+        (0, 2 | 4) => {
+            format!("Made, {asked}: the total is {total}, {}; new labels: {relabelled}.", made_change(delta))
+        }
+        (0, _) => format!("Asked, {asked}: its violation is {delta}."),
+        (21, _) => format!("Refused by 21: there is no kind {kind} of moves."),
+        (22, _) => format!("Refused by 22, {asked}: there is no region {first}."),
+        _ => format!("Refused by {status}, {asked}: {second} is not what this kind of move takes."),
+    }
+}
+
+fn change(delta: i64) -> String {
+    match delta {
+        0 => "stay as it is".to_string(),
+        1.. => format!("rise by {delta}"),
+        _ => format!("fall by {}", -delta),
+    }
+}
+
+fn made_change(delta: i64) -> String {
+    match delta {
+        0 => "as before".to_string(),
+        1.. => format!("{delta} more"),
+        _ => format!("{} less", -delta),
+    }
+}
+
+/// Why a sheet is refused.
+fn reason(Refusal { code, place }: Refusal) -> String {
+    match code {
+        31 => "its length is not that of 1 to 43 whole blocks.".to_string(),
+        32 => format!("block {place} doesn't start with the letters SCTR."),
+        33 => format!("the check of block {place} is not that of its bytes."),
+        34 => format!("block {place} has a kind or a number that is not the one due."),
+        35 => format!("block {place} has a used count that is not the one due."),
+        36 => format!("block {place} has a non-zero byte where zero is due."),
+        37 => format!("{}, against rule {place}.", against(place)),
+        38 => "the number of blocks is not what the head asks for.".to_string(),
+        _ => format!("see code {code}."),
+    }
+}
+
+/// What a sheet's numbers are when they are against a rule.
+fn against(rule: u64) -> &'static str {
+    match rule {
+        1 => "the number of regions is not 1 to 512",
+        2 => "the number of sectors is not 1 to 64",
+        3 => "a workload is over 1,000,000",
+        4 => "the number of edges is over 2,048",
+        5 => "an edge is outside its limits, or not above the edge before it",
+        6 => "the number of constraints is not 1 to 16",
+        7 => "a constraint has a kind, relation, limit or weight that it can't have",
+        _ => "a region is in a sector that the plan doesn't have",
+    }
+}

@@ -1,0 +1,10 @@
+//! The most that a plan and its sheet can have, so that lent memory can be given enough room.
+
+pub const MOST_REGIONS: usize = 512;
+pub const MOST_SECTORS: usize = 64;
+pub const MOST_EDGES: usize = 2_048;
+pub const MOST_CONSTRAINTS: usize = 16;
+pub const MOST_MOVES: usize = 4_096;
+
+/// The bytes of the largest sheet: 43 blocks.
+pub const MOST_BYTES: usize = 43 * 512;

@@ -1,0 +1,120 @@
+//! Constraints as records: `call_records` and `write_records` give what the reference gives for the same list in four numbers each.
+
+mod calls;
+mod canary;
+mod cases;
+mod library;
+mod plans;
+mod reference;
+mod sheets;
+
+use calls::Call;
+use cases::{all_cases, random_cases, Case, Code};
+use plans::{damaged, sheet_a, Damage, Numbers, PLAN_DAMAGES};
+use sheets::{writing, Writing};
+
+/// A plan of which only whole constraints are left, and what is done with it.
+#[derive(Clone, Debug)]
+enum ByRecords {
+    Called(Call),
+    Written(Writing),
+}
+
+impl ByRecords {
+    fn called(mut call: Call) -> Self {
+        leave_whole(&mut call.plan);
+        ByRecords::Called(call)
+    }
+
+    fn written(mut writing: Writing) -> Self {
+        leave_whole(&mut writing.plan);
+        ByRecords::Written(writing)
+    }
+}
+
+fn leave_whole(plan: &mut Numbers) {
+    plan.constraints.truncate(plan.constraints.len() / 4 * 4);
+}
+
+impl Case for ByRecords {
+    fn compare(&self) -> Result<Code, String> {
+        match self {
+            ByRecords::Called(call) => calls::compare(call, &[calls::by_library_records, calls::by_archive_records]),
+            ByRecords::Written(writing) => writing::compare(writing, &[writing::by_library_records, writing::by_archive_records]),
+        }
+    }
+
+    fn smaller(&self) -> Box<dyn Iterator<Item = Self> + '_> {
+        match self {
+            ByRecords::Called(call) => Box::new(call.smaller().map(ByRecords::Called)),
+            ByRecords::Written(writing) => Box::new(writing.smaller().map(ByRecords::Written)),
+        }
+    }
+}
+
+#[test]
+fn random_calls() {
+    random_cases("calls by records", 5_000, |random| ByRecords::called(Call::random(random)));
+}
+
+#[test]
+fn random_damaged_calls() {
+    random_cases("damaged calls by records", 5_000, |random| {
+        let mut call = Call::random(random);
+        call.plan.break_one(random);
+        ByRecords::called(call)
+    });
+}
+
+#[test]
+fn random_writings() {
+    random_cases("writings by records", 3_000, |random| {
+        let mut writing = Writing::random(random);
+        writing.room += random.pick(&[0, 0, 1, 512]);
+        ByRecords::written(writing)
+    });
+}
+
+#[test]
+fn random_damaged_writings() {
+    random_cases("damaged writings by records", 5_000, |random| {
+        let mut writing = Writing::random(random);
+        writing.plan.break_one(random);
+        ByRecords::written(writing)
+    });
+}
+
+#[test]
+fn empty_slices() {
+    let refused = library::call_records(5, 2, &[0; 5], &[], &[], &mut [1; 5], &[], &mut [], &mut [], &mut []);
+    assert_eq!(refused.map_err(|refusal| (refusal.code, refusal.place)), Err((6, 0)));
+    let refused = library::write_records(5, 2, &[0; 5], &[], &[], &[1; 5], &mut []);
+    assert_eq!(refused.map_err(|refusal| (refusal.code, refusal.place)), Err((6, 0)));
+}
+
+#[test]
+fn lists_of_any_length() {
+    let mut cases = Vec::new();
+    for count in 0..=30 {
+        let constraints = sheet_a().constraints.into_iter().cycle().take(4 * count).collect();
+        let plan = Numbers { constraints, ..sheet_a() };
+        let moves = vec![1, 2, 2, 2, 3, 2, 3, 4, 1, 4, 1, 5, 5, 2, 0];
+        cases.extend([ByRecords::called(Call::new(plan.clone(), moves)), ByRecords::written(Writing::new(plan))]);
+    }
+    all_cases("lists of any length", cases);
+}
+
+#[test]
+fn every_refusal_in_order() {
+    let mut damages: Vec<Damage<Numbers>> = Vec::new();
+    for &(code, place, damage) in PLAN_DAMAGES {
+        damages.push((code, place, Box::new(damage)));
+    }
+    let plans = damaged(&sheet_a(), &damages).into_iter().map(|(_, _, plan)| plan);
+    let (call, writing) = (Call::new(sheet_a(), vec![]), Writing::new(sheet_a()));
+    let cases = plans.flat_map(|plan| {
+        let call = Call { plan: plan.clone(), ..call.clone() };
+        [ByRecords::called(call), ByRecords::written(Writing { plan, ..writing.clone() })]
+    });
+    all_cases("refusals by records", cases);
+}

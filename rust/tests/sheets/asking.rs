@@ -1,0 +1,113 @@
+//! A sheet asked by its bytes alone: code, place, total, number of constraints, and at places in and around the list what holds.
+
+use super::reading::code;
+use super::Sheet;
+use crate::canary::Lent;
+use crate::cases::{self, compare_all, Case, Code};
+use crate::library::{self, raw};
+use crate::reference::Verdicts;
+
+#[derive(Clone, Debug)]
+pub struct Asked(pub Sheet);
+
+/// The guarded sheet, and the places that are asked for.
+#[derive(Clone)]
+struct Memory {
+    sheet: Lent<u8>,
+    places: Vec<u64>,
+}
+
+impl Memory {
+    fn of(sheet: &Sheet) -> Self {
+        let count = sheet.plan.constraints.len() as u64 / 4;
+        // The first of the two far places comes down to 1 where its upper bits are lost, and to 0 where it is doubled.
+        Memory { sheet: Lent::list(&sheet.bytes()), places: (0..=count + 1).chain([(1 << 63) + 1, u64::MAX]).collect() }
+    }
+}
+
+impl cases::Memory for Memory {
+    fn same_as(&self, due: &Self) -> Result<(), String> {
+        self.sheet.same_as(&due.sheet, "sheet")
+    }
+}
+
+#[derive(Debug, PartialEq)]
+struct Verdict {
+    place: u64,
+    holds: u64,
+    violation: u64,
+}
+
+#[derive(Debug, PartialEq)]
+struct Answers {
+    code: u64,
+    place: u64,
+    total: u64,
+    constraints: u64,
+    verdicts: Vec<Verdict>,
+}
+
+fn by_reference(memory: &mut Memory) -> Answers {
+    let due = Verdicts::of(memory.sheet.content());
+    let verdicts = memory.places.iter().map(|&place| (place, due.at(place)));
+    Answers {
+        code: due.code,
+        place: due.place,
+        total: due.total,
+        constraints: due.list.len() as u64,
+        verdicts: verdicts.map(|(place, due)| Verdict { place, holds: due.holds, violation: due.violation }).collect(),
+    }
+}
+
+fn by_library(memory: &mut Memory) -> Answers {
+    let places = memory.places.iter();
+    match library::Sheet::new(memory.sheet.slice()) {
+        Ok(sheet) => Answers {
+            code: 0,
+            place: 0,
+            total: sheet.total(),
+            constraints: sheet.constraints(),
+            verdicts: places
+                .map(|&place| Verdict { place, holds: u64::from(sheet.holds(place)), violation: sheet.violation(place) })
+                .collect(),
+        },
+        Err(refusal) => Answers {
+            code: refusal.code,
+            place: refusal.place,
+            total: 0,
+            constraints: 0,
+            verdicts: places.map(|&place| Verdict { place, holds: 0, violation: 0 }).collect(),
+        },
+    }
+}
+
+/// The archive's own answers, which show that a refused sheet has 0 everywhere.
+fn by_archive(memory: &mut Memory) -> Answers {
+    let (sheet, length) = memory.sheet.parts();
+    // SAFETY: the pointer and the length are those of one slice.
+    unsafe {
+        let verdict = |&place| Verdict {
+            place,
+            holds: raw::sctr_holds(sheet, length, place),
+            violation: raw::sctr_violation(sheet, length, place),
+        };
+        Answers {
+            code: raw::sctr_code(sheet, length),
+            place: raw::sctr_place(sheet, length),
+            total: raw::sctr_total(sheet, length),
+            constraints: raw::sctr_constraints(sheet, length),
+            verdicts: memory.places.iter().map(verdict).collect(),
+        }
+    }
+}
+
+impl Case for Asked {
+    fn compare(&self) -> Result<Code, String> {
+        let answers = compare_all(&Memory::of(&self.0), by_reference, &[by_library, by_archive])?;
+        Ok(code(answers.code, answers.place))
+    }
+
+    fn smaller(&self) -> Box<dyn Iterator<Item = Self> + '_> {
+        Box::new(self.0.smaller().map(Asked))
+    }
+}
