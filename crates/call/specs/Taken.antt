@@ -7,42 +7,24 @@ use native.Mathlib.Omega.{arith}
 use mathlib.Core.Path.{_≡_, refl, sym, _∙_}
 use mathlib.Core.List.{List, [], _∷_, _++_}
 use lib.IntN.{ℤ}
-use lib.ListN.{length, drop, length-append, drop-of-length-le, take-append-drop}
+use lib.ListN.{length, drop, drop-of-length-le, take-append-drop}
 use lib.Seq.{sets, sets-eq}
 use Rattle.lists.specs.Sums.{Every}
-use Rattle.lists.specs.ListLaws.{sets-append, length-listOf, drop-listOf, every-listOf}
+use Rattle.lists.specs.ListLaws.{sets-append, drop-listOf, every-listOf}
 use Rattle.terms.specs.declared.Move.{Move}
 use Rattle.meaning.specs.Plan.{Plan, Limits, Coloured}
-use Rattle.meaning.specs.Moves.{moveLength, rowLength, moveAt, movesOf, next, Row, row, cells, rows, last}
+use Rattle.meaning.specs.Moves.{moveLength, rowLength, moveAt, movesOf, next, row, cells, rows, last}
+use Rattle.meaning.specs.MoveLaws.{length-cells, length-rows, length-moves}
 use Rattle.engine.specs.State.{memoryLength, Ready, Within, Opened}
 use Rattle.call.specs.StateLaws.{opened-beyond, opened-ready}
 use Rattle.call.specs.Decoded.{move-within, coloured-next}
 use Rattle.engine.specs.declared.Standing.{Standing}
-
--- ---- rows one after another
-
--- a row has as many cells as it takes numbers
-length-cells : (r : Row) → length (cells r) ≡ rowLength
-unfolding cells
-length-cells r = refl
-
--- the rows of a list of moves: one for each move
-length-rows : (P : Plan) (col : List ℕ) (ms : List Move) → length (rows P col ms) ≡ rowLength * length ms
-unfolding rows
-length-rows P col [] = refl
-length-rows P col (m ∷ ms) =
-    omega (arith, length-append (cells (row P col m)) (rows P (next col m) ms), length-cells (row P col m), length-rows P (next col m) ms)
 
 -- ---- the moves of a flat list
 
 -- how many moves a flat list has
 abbrev pub moveCount : List ℕ → ℕ
 moveCount xs = length xs / moveLength
-
--- it gives as many
-length-moves : (P : Plan) (xs : List ℕ) → length (movesOf P xs) ≡ moveCount xs
-unfolding movesOf
-length-moves P xs = length-listOf (moveCount xs) (moveAt P xs)
 
 -- the moves from index k on: move k, and those after it
 next-move : (P : Plan) (xs : List ℕ) (k : ℕ) → k < moveCount xs → drop k (movesOf P xs) ≡ moveAt P xs k ∷ drop (k + 1) (movesOf P xs)

@@ -5,12 +5,11 @@ use native.Mathlib.Nat.{mul-le-mul}
 use native.Mathlib.Omega.{arith}
 use mathlib.Core.Path.{_≡_, refl, sym, ap, _∙_}
 use mathlib.Core.Bool.{Bool, true, false, cond}
-use mathlib.Core.List.{List, map, map-map}
+use mathlib.Core.List.{List}
 use lib.Dec.{eqb}
-use lib.ListN.{getD}
-use Rattle.lists.specs.Sums.{from, listOf, sum}
+use Rattle.lists.specs.Sums.{from, sum}
 use Rattle.lists.specs.SumLaws.{every-from}
-use Rattle.lists.specs.ListLaws.{map-ext, getD-listOf}
+use Rattle.lists.specs.ListLaws.{map-ext}
 use Rattle.terms.specs.Distance.{gap, distance}
 use Rattle.terms.specs.DistanceLaws.{distance-bound}
 use Rattle.meaning.specs.Plan.{Constraint, Plan, Limits, ConstraintLimits, Coloured, mostRegions, mostSectors, constraintAt, constraintsOf}
@@ -18,7 +17,7 @@ use Rattle.meaning.specs.Kinds.{whole, border, counts, loads, deviation, bounde
 use Rattle.meaning.specs.Components.{counts-length, counts-at, loads-length, loads-at, ncc-sum}
 use Rattle.meaning.specs.Bounds.{ncc-bound, load-bound, whole-bound, border-bound}
 use Rattle.judge.specs.Figures.{figuresOf, gaugeOf, gauges, constraintCount, totalBy}
-use Rattle.judge.specs.FigureLaws.{total-by}
+use Rattle.judge.specs.FigureLaws.{gauges-listOf, gauge-at, total-by}
 use Rattle.judge.specs.Small.{mostLoad, mostGap, mostDistance, tallies-small, plan-small, constraint-limits}
 use Rattle.change.specs.declared.Change.{Change}
 use Rattle.change.specs.Shift.{each, shift, figuresAfter, gaugeAfter, gaugesAfter, totalAfter}
@@ -26,16 +25,6 @@ use Rattle.change.specs.ShiftLaws.{total-by-gauges}
 use Rattle.change.specs.Small.{AtMost, Fits, Shifting, GaugeShifting, GaugesShifting, Totalling}
 use Rattle.change.specs.TwoTerms.{Shifts, shifts-set, shifts-sum, shifts-fit}
 use Rattle.change.specs.Changed.{Changed, changed-counts, changed-loads}
-
-module _ (P : Plan) (col constraints : List ℕ) (e : P .constraints ≡ constraintsOf constraints) where
-  -- the gauges of a plan, one by one
-  gauges-listOf : gauges P col ≡ listOf (constraintCount constraints) (λ n. gaugeOf P col (constraintAt constraints n))
-  unfolding gauges constraintsOf
-  gauges-listOf = ap (map (gaugeOf P col)) e ∙ map-map (gaugeOf P col) (constraintAt constraints) (from 0 (constraintCount constraints))
-
-  -- the gauge of each constraint
-  gauge-at : (n : ℕ) → n < constraintCount constraints → getD (gauges P col) n 0 ≡ gaugeOf P col (constraintAt constraints n)
-  gauge-at n h = ap (λ g. getD g n 0) gauges-listOf ∙ getD-listOf (constraintCount constraints) _ 0 n h
 
 module _ {P : Plan} {col col′ : List ℕ} {own d : ℕ} {c : Change} (l : Limits P) (k : Coloured P col) (ch : Changed P col col′ own d c) where
   -- the sums over the components of the sectors

@@ -3,24 +3,24 @@
 use Prim.Native.Nat.{ℕ, _+_, _*_, _/_}
 use native.Mathlib.Omega.{arith}
 use native.Mathlib.Decide.{ℕ-discrete}
-use mathlib.Core.Path.{_≡_, refl, sym, ap, _∙_}
+use mathlib.Core.Path.{_≡_, sym, ap, _∙_}
 use mathlib.Core.List.{List, [], _∷_, _++_}
 use borrow.Author.Tests.{eq-eqb, ne-eqb}
 use lib.IntN.{ℤ}
 use lib.ListN.{length, take, length-append}
 use lib.Seq.{take-at}
 use Rattle.lists.specs.ListLaws.{length-listOf}
-use Rattle.meaning.specs.Plan.{Plan, Constraint, Limits, Coloured, constraintLength, constraintAt, constraintsOf}
+use Rattle.meaning.specs.Plan.{Plan, Limits, Coloured, constraintLength, constraintAt, constraintsOf}
 use Rattle.meaning.specs.Joined.{labels}
 use Rattle.meaning.specs.Kinds.{counts, loads, border, total}
 use Rattle.meaning.specs.Labels.{plan-labels}
 use Rattle.meaning.specs.Components.{counts-length, loads-length}
-use Rattle.meaning.specs.Moves.{moveLength, rowLength, verdictLength, rows, verdict, verdictsOf, verdicts, work}
+use Rattle.meaning.specs.Moves.{moveLength, rowLength, verdictLength, rows, verdicts, work}
+use Rattle.meaning.specs.MoveLaws.{length-rows, length-moves, length-verdicts}
 use Rattle.refusals.specs.Table.{callRefusal}
 use Rattle.refusals.specs.Valid.{Valid, valid}
 use Rattle.call.specs.Promise.{Input, Outcome, Promise, given, planIn, movesIn, lastIn, refusedBy, ran, outcome, is-outcome}
 use Rattle.call.specs.Taken.{coloured-last}
-use Rattle.demands.specs.MoveLists.{length-rows, length-moves}
 
 -- ---- definitions
 
@@ -57,12 +57,6 @@ pub same-plan : {i j : Input} → SamePlan i j → planIn i ≡ planIn j
 same-plan s = rw (s .R, s .S, s .workloads, s .edges, s .constraints)
 
 -- ---- lengths
-
--- verdicts have two numbers for each constraint
-length-verdicts : (P : Plan) (col : List ℕ) (ks : List Constraint) → length (verdictsOf P col ks) ≡ verdictLength * length ks
-unfolding verdictsOf verdict
-length-verdicts P col [] = refl
-length-verdicts P col (k ∷ ks) = omega (arith, length-verdicts P col ks)
 
 -- the work memory has R labels, S component counts, S workload sums and T
 length-work : {P : Plan} {col : List ℕ} → Limits P → Coloured P col → length (work P col) ≡ P .R + 2 * P .S + 1

@@ -9,11 +9,12 @@ use lib.ListN.{length, getD, take, drop, take-append-drop}
 use lib.Seq.{length-take-le, drop-cons, take-add, getD-append-add}
 use Rattle.lists.specs.Sums.{from}
 use Rattle.lists.specs.SumLaws.{every-all}
-use Rattle.lists.specs.ListLaws.{map-ext, length-listOf}
+use Rattle.lists.specs.ListLaws.{map-ext}
 use Rattle.terms.specs.Moves.{moveOf}
 use Rattle.terms.specs.declared.Move.{Move}
 use Rattle.meaning.specs.Plan.{Plan}
 use Rattle.meaning.specs.Moves.{moveLength, rowLength, moveAt, movesOf, next, Row, row, cells, rows, last}
+use Rattle.meaning.specs.MoveLaws.{length-rows, length-moves}
 
 -- ---- definitions
 
@@ -89,17 +90,6 @@ rows-append P col [] ns = refl
 rows-append P col (m ∷ ms) ns =
     ap (λ l. cells (row P col m) ++ l) (rows-append P (next col m) ms ns)
     ∙ rw (append-assoc (cells (row P col m)))
-
--- rows have four numbers for each move
-pub length-rows : (P : Plan) (col : List ℕ) (ms : List Move) → length (rows P col ms) ≡ rowLength * length ms
-unfolding rows cells
-length-rows P col [] = refl
-length-rows P col (m ∷ ms) = omega (arith, length-rows P (next col m) ms)
-
--- a flat list has a move for every three numbers
-pub length-moves : (P : Plan) (xs : List ℕ) → length (movesOf P xs) ≡ length xs / moveLength
-unfolding movesOf
-length-moves P xs = length-listOf (length xs / moveLength) (moveAt P xs)
 
 -- ---- move k, and its row
 

@@ -7,7 +7,7 @@ use mathlib.Core.List.{List, [], _∷_, map, map-map}
 use mathlib.Core.Bool.{Bool, true, false, cond}
 use lib.Dec.{eqb}
 use lib.ListN.{length, getD}
-use Rattle.lists.specs.Sums.{from, sum, Every}
+use Rattle.lists.specs.Sums.{from, listOf, sum, Every}
 use Rattle.lists.specs.SumLaws.{sum-ext, sum-map, every-turn, every-from}
 use Rattle.lists.specs.ListLaws.{map-ext, getD-listOf}
 use Rattle.lists.specs.Places.{sum-at}
@@ -60,12 +60,14 @@ module _ (P : Plan) where
       unfolding gaugesBy gaugeBy gauges gaugeOf bounded
       gauges-by = rw e
 
-      -- the gauge at each place is that of the constraint there
-      gauge-at : (i : ℕ) → i < constraintCount constraints → getD (gauges P col) i 0 ≡ gaugeOf P col (constraintAt constraints i)
+      -- the gauges, one by one
+      pub gauges-listOf : gauges P col ≡ listOf (constraintCount constraints) (λ i. gaugeOf P col (constraintAt constraints i))
       unfolding gauges constraintsOf
-      gauge-at i h =
-          ap (λ l. getD l i 0) (ap (map (gaugeOf P col)) e ∙ map-map (gaugeOf P col) (constraintAt constraints) (places constraints))
-          ∙ getD-listOf (constraintCount constraints) (λ j. gaugeOf P col (constraintAt constraints j)) 0 i h
+      gauges-listOf = ap (map (gaugeOf P col)) e ∙ map-map (gaugeOf P col) (constraintAt constraints) (places constraints)
+
+      -- the gauge at each place is that of the constraint there
+      pub gauge-at : (i : ℕ) → i < constraintCount constraints → getD (gauges P col) i 0 ≡ gaugeOf P col (constraintAt constraints i)
+      gauge-at i h = ap (λ l. getD l i 0) gauges-listOf ∙ getD-listOf (constraintCount constraints) _ 0 i h
 
       -- the figures and the gauges make the violation of each constraint
       pub violation-at : (i : ℕ) → i < constraintCount constraints → violationAt (figuresOf P col) (gauges P col) constraints i ≡ violation P col (constraintAt constraints i)

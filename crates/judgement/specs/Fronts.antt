@@ -21,7 +21,7 @@ use Rattle.sheet.specs.Accepted.{accepted}
 use Rattle.judgement.specs.declared.Judged.{Judged}
 use Rattle.judgement.specs.Judgement.{Judgement, judged, refusedFor, judgement, constraintCount, verdictAt, Promise}
 use Rattle.judgement.specs.Judged.{Leaves, Told}
-use Rattle.judgement.specs.NoMoves.{length-verdicts}
+use Rattle.judgement.specs.NoMoves.{length-held}
 
 -- a judgement has as many constraints as a sheet at most has, and a verdict on each
 pub record Sized (j : Judgement) : Type 0 where
@@ -34,7 +34,7 @@ unfolding judged
 sized-judged sheet z =
     let k = contentsIn sheet in
     let v = valid-contents k (accepted sheet z .valid) in
-    record { constraints-long = counted-valid k v .constraints; verdicts-long = length-verdicts k; few = limits-valid k v .constraints .high }
+    record { constraints-long = counted-valid k v .constraints; verdicts-long = length-held k; few = limits-valid k v .constraints .high }
 
 -- every judgement of a sheet is so
 pub sized : (sheet : List ℕ) → Sized (judgement sheet)

@@ -4,14 +4,15 @@ use Prim.Native.Nat.{ℕ, _+_, _*_, _/_, _≤_}
 use native.Mathlib.Omega.{arith}
 use mathlib.Core.Path.{_≡_, refl, sym, ap, _∙_}
 use mathlib.Core.Bool.{false}
-use mathlib.Core.List.{List, [], _∷_, _++_}
+use mathlib.Core.List.{List, [], _++_}
 use borrow.Author.Tests.{le-leb}
 use lib.IntN.{ℤ}
 use lib.ListN.{length, drop}
 use Rattle.lists.specs.SumLaws.{every-append}
 use Rattle.lists.specs.ListLaws.{length-listOf}
-use Rattle.meaning.specs.Plan.{Constraint, Plan, constraintLength, constraintAt, constraintsOf, mostRegions, mostSectors, mostConstraints}
-use Rattle.meaning.specs.Moves.{verdictLength, movesOf, last, verdict, verdictsOf}
+use Rattle.meaning.specs.Plan.{constraintLength, constraintAt, constraintsOf, mostRegions, mostSectors, mostConstraints}
+use Rattle.meaning.specs.Moves.{verdictLength, movesOf, last}
+use Rattle.meaning.specs.MoveLaws.{length-verdicts}
 use Rattle.refusals.specs.Table.{Row, none, planTable, roomTable, callTable, callRefusal, planRefusal}
 use Rattle.refusals.specs.Passed.{Passed, passed, passed-none}
 use Rattle.call.specs.Promise.{Input, Outcome, given, ran, outcome, Promise, is-outcome, input}
@@ -22,17 +23,11 @@ use Rattle.judgement.specs.Judgement.{planHeld, verdictsHeld, totalHeld}
 
 -- ---- how many verdicts there are
 
--- two numbers for each constraint
-length-each : (P : Plan) (col : List ℕ) (ks : List Constraint) → length (verdictsOf P col ks) ≡ verdictLength * length ks
-unfolding verdictsOf verdict
-length-each P col [] = refl
-length-each P col (k ∷ ks) = omega (arith, length-each P col ks)
-
--- and so for each of the flat list
-pub length-verdicts : (k : Contents) → length (verdictsHeld k) ≡ verdictLength * (length (k .constraints) / constraintLength)
+-- two numbers for each constraint of the flat list
+pub length-held : (k : Contents) → length (verdictsHeld k) ≡ verdictLength * (length (k .constraints) / constraintLength)
 unfolding constraintsOf
-length-verdicts k =
-    length-each (planHeld k) (k .colouring) (constraintsOf (k .constraints))
+length-held k =
+    length-verdicts (planHeld k) (k .colouring) (constraintsOf (k .constraints))
     ∙ rw (length-listOf (length (k .constraints) / constraintLength) (constraintAt (k .constraints)))
 
 -- ---- the call
@@ -68,4 +63,4 @@ module _ (k : Contents) (rows : List ℤ) (lent work : List ℕ) where
     unfolding outcome ran movesOf last
     judges {o} p =
         let e : o ≡ ran asked = is-outcome p ∙ rw not-refused in
-        rw e (refl, ap (λ (n : ℕ). verdictsHeld k ++ drop n lent) (sym (length-verdicts k)))
+        rw e (refl, ap (λ (n : ℕ). verdictsHeld k ++ drop n lent) (sym (length-held k)))

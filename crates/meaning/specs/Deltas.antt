@@ -26,7 +26,7 @@ sides-mag true h k = omega arith
 sides-mag false h k = omega arith
 
 -- the difference of two numbers that are at most B is no larger
-sub-mag : (a b : ℕ) {B : ℕ} → a ≤ B → b ≤ B → mag (pos a -ℤ pos b) ≤ B
+pub sub-mag : (a b : ℕ) {B : ℕ} → a ≤ B → b ≤ B → mag (pos a -ℤ pos b) ≤ B
 sub-mag a zero h k = omega arith
 sub-mag a (suc b) h k = sides-mag (ltb a (suc b)) h k
 

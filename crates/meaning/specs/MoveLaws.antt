@@ -1,24 +1,27 @@
--- What moves do: an exchange is two recolourings in turn, what is not made changes nothing, and what is made changes the total by its delta.
+-- What moves do, and how many numbers they answer: an exchange is two recolourings in turn, what is not made changes nothing, and what is made changes the total by its delta.
 -- Assumes nothing.
-use Prim.Native.Nat.{ℕ, _-_}
+use Prim.Native.Nat.{ℕ, _-_, _*_, _/_}
+use native.Mathlib.Omega.{arith}
 use mathlib.Core.Path.{_≡_, refl, sym, ap, _∙_}
 use mathlib.Core.List.{List, [], _∷_}
 use mathlib.Core.Bool.{Bool, true, false, not, false≢true}
 use borrow.Author.Tests.{eq-eqb}
 use lib.Dec.{eqb}
 use lib.IntN.{ℤ, pos, negℤ, _+ℤ_, _-ℤ_, +ℤ-assoc, +ℤ-comm, -ℤ-+ℤ-cancel}
+use lib.ListN.{length}
 use lib.Seq.{set-getD}
 use Rattle.lists.specs.Sums.{at, bit, upTo}
 use Rattle.lists.specs.SumLaws.{sum-zero, every-all}
+use Rattle.lists.specs.ListLaws.{length-listOf}
 use Rattle.terms.specs.Moves.{status}
 use Rattle.terms.specs.declared.Region.{Region}
 use Rattle.terms.specs.declared.Sector.{Sector}
 use Rattle.terms.specs.declared.Move.{Move}
 use Rattle.terms.specs.declared.Move.the-variants.{Recolour, Exchange, Ask, Refused}
-use Rattle.meaning.specs.Plan.{Plan}
+use Rattle.meaning.specs.Plan.{Constraint, Plan}
 use Rattle.meaning.specs.Joined.{labels}
 use Rattle.meaning.specs.Kinds.{total}
-use Rattle.meaning.specs.Moves.{recolour, swap, made, next, delta, differing, relabelled, row, last}
+use Rattle.meaning.specs.Moves.{moveLength, rowLength, verdictLength, recolour, swap, made, next, delta, differing, relabelled, Row, row, cells, rows, last, moveAt, movesOf, verdict, verdictsOf}
 
 -- the sector of a region
 abbrev sectorOf : List ℕ → Region → Sector
@@ -27,6 +30,30 @@ sectorOf col v = record { 0 = at col (v .0) }
 -- a region given to the sector that it has leaves the colouring as it was
 pub recolour-own : (col : List ℕ) (v : ℕ) → recolour col v (at col v) ≡ col
 recolour-own col v = set-getD col (v - 1) 0
+
+-- ---- how much there is
+
+-- a row has four numbers
+pub length-cells : (r : Row) → length (cells r) ≡ rowLength
+unfolding cells
+length-cells r = refl
+
+-- there is a row for each move
+pub length-rows : (P : Plan) (col : List ℕ) (ms : List Move) → length (rows P col ms) ≡ rowLength * length ms
+unfolding rows cells
+length-rows P col [] = refl
+length-rows P col (m ∷ ms) = omega (arith, length-rows P (next col m) ms)
+
+-- a flat list has a move for every three numbers
+pub length-moves : (P : Plan) (xs : List ℕ) → length (movesOf P xs) ≡ length xs / moveLength
+unfolding movesOf
+length-moves P xs = length-listOf (length xs / moveLength) (moveAt P xs)
+
+-- verdicts have two numbers for each constraint
+pub length-verdicts : (P : Plan) (col : List ℕ) (ks : List Constraint) → length (verdictsOf P col ks) ≡ verdictLength * length ks
+unfolding verdictsOf verdict
+length-verdicts P col [] = refl
+length-verdicts P col (k ∷ ks) = omega (arith, length-verdicts P col ks)
 
 -- ---- an exchange
 

@@ -2,18 +2,12 @@
 -- Assumes nothing.
 use Prim.Native.Nat.{ℕ, _+_, _≤_, _<_}
 use native.Mathlib.Omega.{arith}
-use native.Mathlib.Decide.{decLt}
-use mathlib.Core.Path.{_∙_}
 use mathlib.Core.List.{List}
-use mathlib.Core.Logic.{_≢_}
 use lib.ListN.{length, getD}
-use Rattle.lists.specs.Sums.{at}
 use Rattle.meaning.specs.Plan.{Edge}
-use Rattle.meaning.specs.Paths.{joined-trans}
 use Rattle.neighbours.specs.Net.{Net}
-use Rattle.search.specs.Marks.{mark}
 use Rattle.search.specs.Flood.{Flood, flood-top}
-use Rattle.search.specs.Grown.{Grown, grown-none}
+use Rattle.search.specs.Grown.{Grown, grown-none, grown-trans}
 use Rattle.search.specs.Expanding.{Expandable, Expanded}
 use Rattle.search.specs.Closed.{Closed, closed-turn}
 
@@ -30,25 +24,6 @@ pub record Growing (R : ℕ) (edges : List Edge) (start nb : List ℕ) (d : ℕ)
   pub grown : Grown R edges d cur queue e cur′ queue′ e′
   pub head : h ≤ e′
   pub closed : Closed edges d cur′ queue′ h
-
--- some more regions are marked, and then some more again
-grown-trans : {R : ℕ} {edges : List Edge} {d : ℕ} {cur queue : List ℕ} {e : ℕ} {cur′ queue′ : List ℕ} {e′ : ℕ} {cur″ queue″ : List ℕ} {e″ : ℕ}
-    → Grown R edges d cur queue e cur′ queue′ e′ → Grown R edges d cur′ queue′ e′ cur″ queue″ e″ → Grown R edges d cur queue e cur″ queue″ e″
-grown-trans {R} {edges} {d} {cur} {queue} {e} {cur′} {queue′} {e′} {cur″} {queue″} {e″} f g =
-    record {
-      flood = g .flood;
-      same = g .same ∙ f .same;
-      size = g .size ∙ f .size;
-      more = omega (arith, f .more, g .more);
-      kept = λ k h. g .kept k (omega (arith, f .more)) ∙ f .kept k h;
-      still = λ w m. g .still w (f .still w m);
-      origin = λ w r. let o = g .origin w r in let p = f .origin (o .y) (o .reached) in record { y = p .y; reached = p .reached; joined = joined-trans (p .joined) (rw (f .same) at (o .joined)) };
-      new = λ k a b. new k a b (decLt k e′);
-    }
-  where
-    new : (k : ℕ) → e ≤ k → k < e″ → Dec (k < e′) → at cur (getD queue″ k 0) ≢ mark
-    new k a b (yes l) = rw (g .kept k l) (f .new k a l)
-    new k a b (no l) = λ m. g .new k (omega arith) b (f .still _ m)
 
 -- nothing more is marked yet
 pub growing-start : {R : ℕ} {edges : List Edge} {start nb : List ℕ} {d : ℕ} {cur queue : List ℕ} {e h : ℕ} → Growable R edges start nb d cur queue e h → Growing R edges start nb d cur queue e cur queue e h

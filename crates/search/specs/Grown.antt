@@ -2,7 +2,7 @@
 -- Assumes nothing.
 use Prim.Native.Nat.{ℕ, _+_, _≤_, _<_}
 use native.Mathlib.Omega.{arith}
-use native.Mathlib.Decide.{ℕ-discrete}
+use native.Mathlib.Decide.{ℕ-discrete, decLt}
 use mathlib.Core.Path.{_≡_, refl, sym, _∙_}
 use mathlib.Core.List.{List}
 use mathlib.Core.Logic.{_≢_, ⊎-elim}
@@ -11,6 +11,7 @@ use lib.Seq.{getD-set-same, getD-set-other}
 use Rattle.lists.specs.Sums.{In, at}
 use Rattle.meaning.specs.Plan.{Edge}
 use Rattle.meaning.specs.Joined.{Neighbours, Joined, itself, along}
+use Rattle.meaning.specs.Paths.{joined-trans}
 use Rattle.meaning.specs.Moves.{recolour}
 use Rattle.search.specs.Marks.{mark, unmask, marked-sector, open-sector, unmask-put, shut-still, mark-keep}
 use Rattle.search.specs.Flood.{Reached, reached-cases, Flood, flood-past, flood-room, flood-push}
@@ -101,3 +102,22 @@ module _ {R : ℕ} {edges : List Edge} {d : ℕ} {cur queue : List ℕ} {e : ℕ
       new : (k : ℕ) → e ≤ k → k < e′ + 1 → Dec (k ≡ e′) → at cur (getD (set queue′ e′ z) k 0) ≢ mark
       new k a b (yes q) = rw (q, last) fresh
       new k a b (no m) = rw (getD-set-other queue′ e′ k z 0 m) (g .new k a (omega arith))
+
+-- some more regions are marked, and then some more again
+pub grown-trans : {R : ℕ} {edges : List Edge} {d : ℕ} {cur queue : List ℕ} {e : ℕ} {cur′ queue′ : List ℕ} {e′ : ℕ} {cur″ queue″ : List ℕ} {e″ : ℕ}
+    → Grown R edges d cur queue e cur′ queue′ e′ → Grown R edges d cur′ queue′ e′ cur″ queue″ e″ → Grown R edges d cur queue e cur″ queue″ e″
+grown-trans {R} {edges} {d} {cur} {queue} {e} {cur′} {queue′} {e′} {cur″} {queue″} {e″} f g =
+    record {
+      flood = g .flood;
+      same = g .same ∙ f .same;
+      size = g .size ∙ f .size;
+      more = omega (arith, f .more, g .more);
+      kept = λ k h. g .kept k (omega (arith, f .more)) ∙ f .kept k h;
+      still = λ w m. g .still w (f .still w m);
+      origin = λ w r. let o = g .origin w r in let p = f .origin (o .y) (o .reached) in record { y = p .y; reached = p .reached; joined = joined-trans (p .joined) (rw (f .same) at (o .joined)) };
+      new = λ k a b. new k a b (decLt k e′);
+    }
+  where
+    new : (k : ℕ) → e ≤ k → k < e″ → Dec (k < e′) → at cur (getD queue″ k 0) ≢ mark
+    new k a b (yes l) = rw (g .kept k l) (f .new k a l)
+    new k a b (no l) = λ m. g .new k (omega arith) b (f .still _ m)
