@@ -1,7 +1,7 @@
 -- The struct is taken apart, and `showing::block` is called on the slice and the number; its result is a part of the lent sheet: a walk of the MIR by hand.
 -- The struct is Copy: what it owns is had twice, one copy is kept whole for the exit, and of the other what sheet owns goes to the callee, beside the lifetime's token, which comes back.
 -- Assumes nothing.
-use mathlib.Core.Path.{_≡_, refl}
+use mathlib.Core.Path.{refl}
 use Prim.Native.Nat.{ℕ, _<_, _^_}
 use mathlib.Core.List.{List, [], _∷_}
 use lib.Dec.{T as Holds}
@@ -15,25 +15,20 @@ use prog.Memory.{Memory}
 use prog.Routine.{Routine}
 use prog.Wp.{Heap, Calls, Loops, WpFn, Tables}
 use ghost.Atoms.{Atoms, sem}
-use contract.Lifetimes.{Lfts}
 use contract.Monad.{Fun, fact}
 use contract.Running.{givenOf, tables, tablesOf}
-use types.Kit.{Given, ‵, raw, _⊛_, given, ⋆, some, later, _$_, _∵_, !, qed, by, move, drop, use1, use2, split, join, learn, pick, fsplit, fjoin, suffices, frame, await, done}
+use types.Kit.{Given, ‵, raw, _⊛_, ⋆, some, later, _$_, _∵_, !, qed, by, move, use1, split, join, pick, fjoin, suffices, frame, await, done}
 use types.Part.{whole, sub, look-in}
 use types.Run.{look, init, forget, stop, fld, from, load, of-opd, and-then, no-more, assigns, land, returns, enter, alloc1, alloc0, params1, pass1, pass0, free1, free0}
 use sound.WpLaws.{FmC, fmOf, WpFn-mono}
 use denote.RattleType.{RattleType, owns}
 use denote.Laws.{Is, shows}
-use denote.Plain.{uint-makes}
 use denote.Builtin.{u8, usize}
 use denote.Ref.{now, RefT}
 use denote.Signature.{namedLft}
 use denote.Slice.{sliceVal, ShrSlice, shr-slice-lawful}
-use denote.Steps.{owned, peeks, heard, nothing}
-use denote.Struct.Declared.{Declared}
+use denote.Steps.{peeks, heard, nothing}
 use denote.Struct.Laws as LL
-use denote.Struct.Rest.{all-own, ownAt, rest, own-open, own-out}
-use denote.Struct.Values.{Values}
 use denote.Triple.Statement.{Contract, Triple}
 use denote.Triple.Call.{calls-at}
 use denote.Triple.Entry.{Vals, onEntry}
@@ -44,6 +39,8 @@ use denote.Exit.{yes}
 use denote.Triple.Clauses.{ensured, lasts}
 use Rattle.sheet.specs.Showing.{Promise}
 use Rattle.reader.specs.declared.Reader.{Reader}
+use Rattle.reader.proofs.Apart as Apart
+use Rattle.reader.proofs.Apart.{B}
 use Rattle.reader.proofs.Reader as T
 use Rattle.reader.proofs.Reader.Laws as T′
 use Rattle.sheet.proofs.showing.block as block
@@ -54,10 +51,6 @@ use Rattle.reader.proofs.part.Key.{name as #reader·part}
 use Rattle.reader.proofs.part as part
 use Rattle.reader.proofs.part.Statement as stated
 use Rattle.reader.proofs.part.Code as code
-
--- the struct's type, over the signature's lifetimes
-abbrev B : Lfts 1 → RattleType
-B κs = T.the-row (namedLft 1 0 tt κs)
 
 abbrev stayed : Stays (part.ended .signature .params) (part.ended .kept)
 stayed = (stay-none B yes, tt)
@@ -89,16 +82,6 @@ module _ {M : Type 1} (𝓤 : URA M) (H : Heap 𝓤) (A : Atoms 𝓤) (W : Given
   abbrev Own : Fml
   Own = B (κ, tt) .own d (mach ∷ [])
 
-  -- the struct's type and laws, and d's fields' values
-  abbrev D : Declared
-  D = T.the-type (namedLft 1 0 tt (κ, tt))
-
-  abbrev L : LL.Laws D
-  L = T′.the-laws (namedLft 1 0 tt (κ, tt))
-
-  abbrev vd : Values (D .parts)
-  vd = (d .sheet, (d .place, tt))
-
   -- what the callee is passed
   abbrev passed : Vals block.signature (κ, tt)
   passed = (v ∷ [], (vint w64 (d .place) ∷ [], tt))
@@ -111,13 +94,7 @@ module _ {M : Type 1} (𝓤 : URA M) (H : Heap 𝓤) (A : Atoms 𝓤) (W : Given
 
   -- what the struct owns gives what the callee asks, and is kept
   apart : d .place < 2 ^ 64 → ent 𝓤 (onEntry 𝓤 H A part.signature (κ, tt) (q, tt) (d, tt) (mach ∷ [], tt)) (sep 𝓤 (Shows 𝓤 H A mem run .pre to) (sem 𝓤 H A Own))
-  apart fits =
-      qed W ((‵ (flft κ q) ⊛ ‵ ftrue) ∷ ‵ (owns (B (κ, tt) ∷ []) (d, tt) (mach ∷ [], tt)) ∷ []) ∵
-      move ! (1 ∷ []) $ fsplit ! $ move ! (1 ∷ []) $ drop ! $ use1 W (‵ Own ⊛ ‵ Own) (LL.copy D (T′.the-copy (namedLft 1 0 tt (κ, tt))) 𝓤 H A W .twice d (mach ∷ [])) $ split ! $
-      use1 W (given (mach ∷ [] ≡ mach ∷ []) (‵ (all-own (D .parts) L vd))) (own-open 𝓤 H A W D L vd mach) $ learn ! (λ _. use1 W (‵ (ownAt (D .parts) L 0 (d .sheet)) ⊛ ‵ (rest (D .parts) L 0 vd)) (own-out 𝓤 H A W (D .parts) L 0 vd) $ split ! $
-      -- [what sheet owns; what place owns; what the struct owns; the token]
-      move ! (1 ∷ []) $ drop ! $ nothing ! $ owned ! usize (Is usize) (uint-makes 𝓤 H A W w64) (d .place) _ (refl, fits) $ fjoin ! $ move ! (1 ∷ 0 ∷ []) $ fjoin ! $
-      move ! (2 ∷ 0 ∷ []) $ use2 W (raw (Shows 𝓤 H A mem run .pre to)) asked $ frame ! $ done !)
+  apart fits = Apart.apart 𝓤 H A W κ q d (Shows 𝓤 H A mem run .pre to) asked fits
 
   -- of the callee's `ensured`, the clause alone: it has no `&mut`, so what is said of last values is dropped
   said : (r : RefT (List ℕ)) → ent 𝓤 (ensured 𝓤 H A block.ended (block.clauses 𝓤 H A mem run) (κ, tt) (d .sheet, (d .place, tt)) tt r) (fact 𝓤 (Found r))
