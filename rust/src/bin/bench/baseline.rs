@@ -2,18 +2,7 @@
 //! a search that stops as soon as it knows, one running sum for each constraint. It is spared the refusals, the verdicts and the
 //! work memory.
 
-use crate::plans::Plan;
-
-fn distance(relation: u64, x: u64, limit: u64) -> u64 {
-    match relation {
-        1 => x.saturating_sub(limit),
-        2 => (x + 1).saturating_sub(limit),
-        3 => x.abs_diff(limit),
-        4 => (x == limit) as u64,
-        5 => (limit + 1).saturating_sub(x),
-        _ => limit.saturating_sub(x),
-    }
-}
+use crate::plans::{distance, Plan};
 
 fn excess(n: u32) -> u64 {
     n.saturating_sub(1) as u64

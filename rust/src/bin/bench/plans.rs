@@ -112,3 +112,15 @@ pub fn moves(random: &mut Random, plan: &Plan, kinds: &[u64], n: usize) -> Vec<u
     }
     list
 }
+
+/// How far x is from standing in the relation to the limit.
+pub fn distance(relation: u64, x: u64, limit: u64) -> u64 {
+    match relation {
+        1 => x.saturating_sub(limit),
+        2 => (x + 1).saturating_sub(limit),
+        3 => x.abs_diff(limit),
+        4 => (x == limit) as u64,
+        5 => (limit + 1).saturating_sub(x),
+        _ => limit.saturating_sub(x),
+    }
+}

@@ -1,5 +1,7 @@
 //! The library's own method in plain Rust: the whole call, refusals, verdicts and work memory among it.
 
+use crate::plans::distance;
+
 const MARK: u64 = 255;
 
 /// A code and the place that it names.
@@ -7,17 +9,6 @@ pub type Refused = (u64, u64);
 
 fn within(low: u64, x: u64, high: u64) -> bool {
     low <= x && x <= high
-}
-
-fn distance(relation: u64, x: u64, limit: u64) -> u64 {
-    match relation {
-        1 => x.saturating_sub(limit),
-        2 => (x + 1).saturating_sub(limit),
-        3 => x.abs_diff(limit),
-        4 => (x == limit) as u64,
-        5 => (limit + 1).saturating_sub(x),
-        _ => limit.saturating_sub(x),
-    }
 }
 
 /// What a call is given and what it is lent.
