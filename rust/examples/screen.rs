@@ -1,9 +1,10 @@
-//! A small planning screen: prints a sheet's verdicts by place, with a sentence for each, and tries a short list of moves.
+//! A small planning screen: prints a sheet's verdicts by place, with a sentence for each, sends a flight over a border, and tries
+//! a short list of moves.
 //!
 //! `cargo run --example screen ../sheets/a.sheet`
 
 use qirfadhun::limits::{MOST_CONSTRAINTS, MOST_EDGES, MOST_REGIONS};
-use qirfadhun::{Refusal, Sheet};
+use qirfadhun::{Constraint, Refusal, Sheet};
 use std::process::ExitCode;
 
 fn main() -> ExitCode {
@@ -31,6 +32,7 @@ fn show(bytes: &[u8]) -> Result<(), Refusal> {
     let sheet = Sheet::new(bytes)?;
     let mut plan = Plan::read(bytes)?;
     print_verdicts(&sheet, &plan);
+    send_flight(&plan)?;
     try_moves(&mut plan)
 }
 
@@ -59,6 +61,17 @@ impl Plan {
     fn sector(&self, region: u64) -> u64 {
         self.colouring[region as usize - 1]
     }
+
+    /// Two regions with a border between them, or any two where the plan has none.
+    fn border(&self) -> (u64, u64) {
+        let mut ends = self.edges.chunks(3).map(|edge| (edge[0], edge[1]));
+        ends.find(|&(a, b)| self.sector(a) != self.sector(b)).unwrap_or((1, self.regions))
+    }
+
+    /// The work memory that a call needs.
+    fn work(&self) -> Vec<u64> {
+        vec![0; (self.regions + 2 * self.sectors + 1) as usize]
+    }
 }
 
 fn print_verdicts(sheet: &Sheet, plan: &Plan) {
@@ -82,7 +95,8 @@ fn sentence(place: u64, kind: u64, relation: u64, limit: u64) -> String {
             "Constraint {place}: how far the workload of each sector is from the average, times the number of sectors, \
              is {bound} in all."
         ),
-        _ => format!("Constraint {place}: the workload of every sector is {bound}."),
+        4 => format!("Constraint {place}: the workload of every sector is {bound}."),
+        _ => format!("Constraint {place}: every stretch of a flight in one sector is {bound} seconds."),
     }
 }
 
@@ -97,20 +111,48 @@ fn bound(relation: u64, limit: u64) -> String {
     }
 }
 
+/// Judges the colouring by one flight that is 45 seconds beyond a border, and tries to move the border.
+fn send_flight(plan: &Plan) -> Result<(), Refusal> {
+    let (a, b) = plan.border();
+    let dwell = Constraint { kind: 5, relation: 6, limit: 120, weight: 1 };
+    let probe = [1, b, plan.sector(a)];
+    let (mut row, mut verdict) = ([0; 4], [0; 2]);
+    qirfadhun::call_records(
+        plan.regions,
+        plan.sectors,
+        &plan.workloads,
+        &plan.edges,
+        &[2],
+        &[a, 300, b, 45],
+        &[dwell],
+        &mut plan.colouring.clone(),
+        &probe,
+        &mut row,
+        &mut verdict,
+        &mut plan.work(),
+    )?;
+    println!("A flight, 300 seconds in region {a} and 45 in region {b}:");
+    println!("{} Its violation is {}.", sentence(1, dwell.kind, dwell.relation, dwell.limit), verdict[1]);
+    println!("{}", row_in_words(probe, &row));
+    println!("Without the flight:");
+    Ok(())
+}
+
 /// Takes a short list of moves across a border, where the plan has one, and prints their rows.
 fn try_moves(plan: &mut Plan) -> Result<(), Refusal> {
-    let mut ends = plan.edges.chunks(3).map(|edge| (edge[0], edge[1]));
-    let (a, b) = ends.find(|&(a, b)| plan.sector(a) != plan.sector(b)).unwrap_or((1, plan.regions));
+    let (a, b) = plan.border();
     let sector = plan.sector(b);
     let moves = [[1, a, sector], [3, a, b], [5, a, 0], [4, a, b], [2, b, sector], [1, plan.regions + 1, sector]];
     let mut rows = [0; 4 * 6];
     let mut verdicts = vec![0; plan.constraints.len() / 2];
-    let mut work = vec![0; (plan.regions + 2 * plan.sectors + 1) as usize];
+    let mut work = plan.work();
     qirfadhun::call(
         plan.regions,
         plan.sectors,
         &plan.workloads,
         &plan.edges,
+        &[],
+        &[],
         &plan.constraints,
         &mut plan.colouring,
         moves.as_flattened(),

@@ -18,6 +18,9 @@ fn totals(answer: raw::CallAnswer) -> Result<Totals, Refusal> {
 /// An edge is three numbers, a constraint four, a move three, a row four, a verdict two; the work memory holds
 /// `regions + 2 * sectors + 1` numbers. What lies beyond them stays as it was.
 ///
+/// Flights are two lists: `counts` has the number of visits of each flight, and `visits` the visits of one flight after the other,
+/// each a region and the seconds spent there. Both are empty where there are no flights.
+///
 /// ```
 /// let mut colouring = [1, 1, 1, 2, 2];
 /// let (mut rows, mut verdicts, mut work) = ([0; 4], [0; 8], [0; 10]);
@@ -26,6 +29,8 @@ fn totals(answer: raw::CallAnswer) -> Result<Totals, Refusal> {
 ///     2,
 ///     &[10, 20, 30, 25, 15],
 ///     &[1, 2, 4, 2, 3, 6, 3, 4, 2, 4, 5, 3],
+///     &[], // no flights
+///     &[],
 ///     &[1, 3, 2, 100, 2, 1, 5, 1, 3, 1, 40, 2, 4, 1, 55, 3],
 ///     &mut colouring,
 ///     &[2, 3, 2], // give region 3 to sector 2
@@ -44,6 +49,8 @@ pub fn call(
     sectors: u64,
     workloads: &[u64],
     edges: &[u64],
+    counts: &[u64],
+    visits: &[u64],
     constraints: &[u64],
     colouring: &mut [u64],
     moves: &[u64],
@@ -60,6 +67,10 @@ pub fn call(
             workloads.len(),
             edges.as_ptr(),
             edges.len(),
+            counts.as_ptr(),
+            counts.len(),
+            visits.as_ptr(),
+            visits.len(),
             constraints.as_ptr(),
             constraints.len(),
             colouring.as_mut_ptr(),
@@ -83,21 +94,26 @@ pub fn call(
 ///
 /// let connected = Constraint { kind: 1, relation: 3, limit: 2, weight: 100 };
 /// let bounded = Constraint { kind: 4, relation: 1, limit: 55, weight: 3 };
-/// let (mut colouring, mut verdicts) = ([1, 2, 2], [0; 4]);
+/// let dwell = Constraint { kind: 5, relation: 6, limit: 120, weight: 1 };
+/// let (mut colouring, mut verdicts) = ([1, 2, 2], [0; 6]);
 /// let totals = qirfadhun::call_records(
 ///     3,
 ///     2,
 ///     &[60, 20, 20],
 ///     &[1, 2, 4, 2, 3, 6],
-///     &[connected, bounded],
+///     &[3, 1], // two flights, of three visits and of one
+///     &[1, 300, 2, 80, 3, 60, 3, 90],
+///     &[connected, bounded, dwell],
 ///     &mut colouring,
 ///     &[],
 ///     &mut [],
 ///     &mut verdicts,
 ///     &mut [0; 8],
 /// )?;
-/// assert_eq!(totals.last, 15);
-/// assert_eq!(verdicts, [1, 0, 0, 5]); // the first holds; the second doesn't, its violation is 5
+/// assert_eq!(totals.last, 45);
+/// // The first holds. The workload of sector 1 is 5 above 55. One flight stays 300 seconds in sector 1 and 140 in sector 2, the
+/// // other 90 in sector 2, which is 30 below 120.
+/// assert_eq!(verdicts, [1, 0, 0, 5, 0, 30]);
 /// # Ok::<(), qirfadhun::Refusal>(())
 /// ```
 #[allow(clippy::too_many_arguments)]
@@ -106,6 +122,8 @@ pub fn call_records(
     sectors: u64,
     workloads: &[u64],
     edges: &[u64],
+    counts: &[u64],
+    visits: &[u64],
     constraints: &[Constraint],
     colouring: &mut [u64],
     moves: &[u64],
@@ -122,6 +140,10 @@ pub fn call_records(
             workloads.len(),
             edges.as_ptr(),
             edges.len(),
+            counts.as_ptr(),
+            counts.len(),
+            visits.as_ptr(),
+            visits.len(),
             constraints.as_ptr(),
             constraints.len(),
             colouring.as_mut_ptr(),

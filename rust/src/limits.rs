@@ -3,6 +3,11 @@
 pub const MOST_REGIONS: usize = 512;
 pub const MOST_SECTORS: usize = 64;
 pub const MOST_EDGES: usize = 2_048;
+pub const MOST_FLIGHTS: usize = 64;
+
+/// The visits of one flight.
+pub const MOST_VISITS: usize = 32;
+
 pub const MOST_CONSTRAINTS: usize = 16;
 pub const MOST_MOVES: usize = 4_096;
 

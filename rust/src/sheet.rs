@@ -59,7 +59,7 @@ fn bytes_written(answer: raw::WriteAnswer) -> Result<usize, Refusal> {
 }
 
 /// Writes a plan and its colouring as a sheet at the start of the lent bytes, and answers how many bytes it has. What lies beyond
-/// stays as it was.
+/// stays as it was. The sheet has no flights, and holds constraints of the kinds 1 to 4 only; kind 5 is refused by code 7.
 ///
 /// ```
 /// let mut lent = [0; qirfadhun::limits::MOST_BYTES];

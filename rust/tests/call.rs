@@ -9,7 +9,10 @@ mod reference;
 
 use calls::{by_reference, compare, Answer, Call, Memory};
 use cases::{all_cases, random_cases, shrink, Case, Code};
-use plans::{break_list, damaged, largest_plan, moves, plan_of, sheet_a, Damage, Numbers, Random, PLAN_DAMAGES};
+use plans::{
+    break_list, damaged, flights_along, judged_damages, largest_plan, moves, plan_of, sheet_a_with_flights, Damage, Numbers,
+    Random,
+};
 use reference::*;
 
 #[test]
@@ -42,6 +45,7 @@ fn break_one(random: &mut Random, call: &mut Call) {
             let room = &mut [rows, verdicts, work][random.place(3)];
             **room = random.pick(&[0, room.saturating_sub(1), **room + 1, **room + 7]);
         }
+        3 | 4 => plan.break_flights(random),
         _ => plan.break_one(random),
     }
 }
@@ -50,16 +54,17 @@ fn break_one(random: &mut Random, call: &mut Call) {
 #[test]
 fn empty_slices() {
     let (mut colouring, mut verdicts, mut work) = ([1], [7; 2], [7; 4]);
-    let totals = library::call(1, 1, &[9], &[], &[4, 6, 1, 1], &mut colouring, &[], &mut [], &mut verdicts, &mut work);
+    let constraint = [4, 6, 1, 1];
+    let totals = library::call(1, 1, &[9], &[], &[], &[], &constraint, &mut colouring, &[], &mut [], &mut verdicts, &mut work);
     assert_eq!(totals.map(|totals| (totals.first, totals.last)), Ok((0, 0)));
     assert_eq!((verdicts, work), ([1, 0], [1, 1, 9, 0]));
-    let refused = library::call(0, 0, &[], &[], &[], &mut [], &[], &mut [], &mut [], &mut []);
+    let refused = library::call(0, 0, &[], &[], &[], &[], &[], &mut [], &[], &mut [], &mut [], &mut []);
     assert_eq!(refused.map_err(|refusal| (refusal.code, refusal.place)), Err((1, 0)));
 }
 
 #[test]
 fn rooms_around_the_limit() {
-    let exact = Call::new(sheet_a(), vec![2, 3, 2, 4, 1, 5, 5, 1, 0]);
+    let exact = Call::new(sheet_a_with_flights(), vec![2, 3, 2, 4, 1, 5, 5, 1, 0]);
     let mut calls = Vec::new();
     for rows in 0..=exact.rows + 2 {
         for verdicts in 0..=exact.verdicts + 2 {
@@ -90,13 +95,13 @@ const CALL_DAMAGES: &[CallDamage] = &[
 #[test]
 fn every_refusal_in_order() {
     let mut damages: Vec<Damage<Call>> = Vec::new();
-    for &(code, place, damage) in PLAN_DAMAGES {
+    for (code, place, damage) in judged_damages() {
         damages.push((code, place, Box::new(move |call| damage(&mut call.plan))));
     }
     for &(code, damage) in CALL_DAMAGES {
         damages.push((code, 0, Box::new(damage)));
     }
-    let good = Call::new(sheet_a(), vec![2, 3, 2, 4, 1, 5, 1, 6, 1]);
+    let good = Call::new(sheet_a_with_flights(), vec![2, 3, 2, 4, 1, 5, 1, 6, 1]);
     let calls = damaged(&good, &damages);
     for (code, place, call) in &calls {
         assert_eq!(by_reference(&mut Memory::of(call)), [*code, *place, 0, 0], "{call:?}");
@@ -106,12 +111,12 @@ fn every_refusal_in_order() {
 
 #[test]
 fn wild_numbers_everywhere() {
-    let good = Call::new(sheet_a(), (1..=5).flat_map(|kind| [kind, 2, if kind < 5 { 1 } else { 0 }]).collect());
-    let numbers = [0, 1, 2, 3, 5, 6, 7, 63, 64, 65, 511, 512, 513, 1_000, 1_001, 1_000_000, 1_000_001, 100_000_000_000];
+    let good = Call::new(sheet_a_with_flights(), (1..=5).flat_map(|kind| [kind, 2, if kind < 5 { 1 } else { 0 }]).collect());
+    let numbers = [0, 1, 2, 3, 4, 5, 6, 7, 32, 33, 63, 64, 65, 511, 512, 513, 1_000, 1_001, 86_400, 86_401, 1_000_000, 1_000_001];
     let ends = [8, 16, 31, 32, 62, 63].map(|bits| 1 << bits);
     let mut calls = Vec::new();
-    for number in numbers.into_iter().chain(ends).chain([u64::MAX, u64::MAX - 1, i64::MAX as u64]) {
-        let places = [2, 5, 12, 16, 5, 15].into_iter().enumerate();
+    for number in numbers.into_iter().chain(ends).chain([LIMIT, LIMIT + 1, u64::MAX, u64::MAX - 1, i64::MAX as u64]) {
+        let places = [2, 5, 12, 2, 16, 20, 5, 15].into_iter().enumerate();
         for (list, place) in places.flat_map(|(list, length)| (0..length).map(move |place| (list, place))) {
             let mut call = good.clone();
             match list {
@@ -119,8 +124,10 @@ fn wild_numbers_everywhere() {
                 0 => call.plan.sectors = number,
                 1 => call.plan.workloads[place] = number,
                 2 => call.plan.edges[place] = number,
-                3 => call.plan.constraints[place] = number,
-                4 => call.plan.colouring[place] = number,
+                3 => call.plan.counts[place] = number,
+                4 => call.plan.visits[place] = number,
+                5 => call.plan.constraints[place] = number,
+                6 => call.plan.colouring[place] = number,
                 _ => call.moves[place] = number,
             }
             calls.push(call);
@@ -150,11 +157,35 @@ fn numbers_at_their_ends() {
     all_cases("numbers at their ends", calls);
 }
 
+/// The same of flights and of constraints on them.
+#[test]
+fn flights_at_their_ends() {
+    let mut random = Random::new(1);
+    let mut calls = Vec::new();
+    for ends in 0..1 << 8 {
+        let end = |bit: u32, low: u64, high: u64| if ends >> bit & 1 == 0 { low } else { high };
+        let (regions, sectors) = (end(0, 2, 12), end(1, 2, SECTORS));
+        let counts = vec![end(2, 1, VISITS); end(3, 1, FLIGHTS) as usize];
+        for relation in 1..=6 {
+            let plan = plan_of(&mut random, regions, sectors);
+            let mut plan = flights_along(&mut random, plan, counts.clone());
+            plan.visits.chunks_mut(2).for_each(|visit| visit[1] = end(4, 1, DWELL));
+            let constraint = [5, relation, end(5, 0, LIMIT), end(6, 1, WEIGHT)];
+            plan.constraints = constraint.repeat(end(7, 1, CONSTRAINTS) as usize);
+            let moves = moves(&mut random, &plan, 6);
+            calls.push(Call::new(plan, moves));
+        }
+    }
+    all_cases("flights at their ends", calls);
+}
+
 #[test]
 fn counts_at_their_ends() {
     let mut random = Random::new(1);
     let plan = largest_plan(&mut random);
-    assert_eq!((plan.edges.len(), plan.constraints.len()), (3 * 2_048, 4 * 16));
+    let mut plan = flights_along(&mut random, plan, vec![VISITS; FLIGHTS as usize]);
+    plan.constraints.chunks_mut(4).step_by(3).for_each(|four| four[0] = 5);
+    assert_eq!((plan.edges.len(), plan.visits.len(), plan.constraints.len()), (3 * 2_048, 2 * 64 * 32, 4 * 16));
     let most = moves(&mut random, &plan, MOVES as usize);
     let largest = Call::new(plan, most);
 
@@ -165,6 +196,11 @@ fn counts_at_their_ends() {
     };
     let beyond = [
         one_more(|call| call.plan.edges.extend([511, 512, 1])),
+        one_more(|call| {
+            call.plan.counts.push(1);
+            call.plan.visits.extend([1, 1]);
+        }),
+        one_more(|call| call.plan.visits.extend([1, 1])),
         one_more(|call| call.plan.constraints.extend([1, 1, 1, 1])),
         one_more(|call| call.moves.extend([1, 1, 1])),
         one_more(|call| call.plan.sectors += 1),
@@ -174,7 +210,7 @@ fn counts_at_their_ends() {
             call.plan.colouring.push(1);
         }),
     ];
-    for (call, code) in beyond.iter().zip([4, 6, 9, 2, 1]) {
+    for (call, code) in beyond.iter().zip([4, 13, 13, 6, 9, 2, 1]) {
         assert_eq!(by_reference(&mut Memory::of(call)), [code, 0, 0, 0]);
     }
     all_cases("counts beyond their ends", beyond);
@@ -191,25 +227,47 @@ fn wrong(memory: &mut Memory) -> Answer {
     answer
 }
 
+/// A callee to which every second visit is of one second, where it is to the region of the visit before it.
+fn forgetful(memory: &mut Memory) -> Answer {
+    let lent = memory.clone();
+    for two in memory.visits.slice().chunks_exact_mut(4) {
+        if two[0] == two[2] {
+            two[3] = two[3].min(1);
+        }
+    }
+    let answer = by_reference(memory);
+    memory.visits = lent.visits;
+    answer
+}
+
 #[derive(Clone, Debug)]
-struct Misjudged(Call);
+struct Misjudged(Call, fn(&mut Memory) -> Answer);
 
 impl Case for Misjudged {
     fn compare(&self) -> Result<Code, String> {
-        compare(&self.0, &[wrong])
+        compare(&self.0, &[self.1])
     }
 
     fn smaller(&self) -> Box<dyn Iterator<Item = Self> + '_> {
-        Box::new(self.0.smaller().map(Misjudged))
+        Box::new(self.0.smaller().map(|call| Misjudged(call, self.1)))
     }
+}
+
+/// The smallest call found that shows a callee to be wrong.
+fn shrunk(wrong: fn(&mut Memory) -> Answer) -> Call {
+    let mut random = Random::new(1);
+    let found = (0..1_000).map(|_| Misjudged(Call::random(&mut random), wrong)).find(|case| case.compare().is_err());
+    shrink(found.expect("found")).0
 }
 
 #[test]
 fn a_wrong_callee_is_found_and_its_case_shrunk() {
-    let mut random = Random::new(1);
-    let found = (0..1_000).map(|_| Misjudged(Call::random(&mut random))).find(|case| case.compare().is_err());
-    let Misjudged(Call { plan: Numbers { regions, edges, constraints, .. }, moves, .. }) = shrink(found.expect("found"));
+    let Call { plan: Numbers { regions, edges, counts, constraints, .. }, moves, .. } = shrunk(wrong);
     // Three relabelled regions take at least four regions and three edges.
-    assert_eq!((constraints.len(), moves.len()), (4, 3));
+    assert_eq!((counts.len(), constraints.len(), moves.len()), (0, 4, 3));
     assert!(regions <= 6 && edges.len() <= 12, "{regions} regions, edges {edges:?}");
+
+    let Call { plan: Numbers { regions, edges, visits, constraints, .. }, moves, .. } = shrunk(forgetful);
+    assert_eq!((regions, edges.len(), visits.len(), constraints.len(), moves.len()), (1, 0, 4, 4, 0));
+    assert_eq!((visits[0], visits[2], constraints[0]), (1, 1, 5));
 }

@@ -10,7 +10,7 @@ mod sheets;
 
 use calls::Call;
 use cases::{all_cases, random_cases, Case, Code};
-use plans::{damaged, sheet_a, Damage, Numbers, PLAN_DAMAGES};
+use plans::{damaged, judged_damages, sheet_a, sheet_a_with_flights, stored_damages, Damage, Numbers, PlanDamage};
 use sheets::{writing, Writing};
 
 /// A plan of which only whole constraints are left, and what is done with it.
@@ -61,7 +61,11 @@ fn random_calls() {
 fn random_damaged_calls() {
     random_cases("damaged calls by records", 5_000, |random| {
         let mut call = Call::random(random);
-        call.plan.break_one(random);
+        if random.once_in(3) {
+            call.plan.break_flights(random);
+        } else {
+            call.plan.break_one(random);
+        }
         ByRecords::called(call)
     });
 }
@@ -86,35 +90,42 @@ fn random_damaged_writings() {
 
 #[test]
 fn empty_slices() {
-    let refused = library::call_records(5, 2, &[0; 5], &[], &[], &mut [1; 5], &[], &mut [], &mut [], &mut []);
+    let refused = library::call_records(5, 2, &[0; 5], &[], &[], &[], &[], &mut [1; 5], &[], &mut [], &mut [], &mut []);
     assert_eq!(refused.map_err(|refusal| (refusal.code, refusal.place)), Err((6, 0)));
     let refused = library::write_records(5, 2, &[0; 5], &[], &[], &[1; 5], &mut []);
     assert_eq!(refused.map_err(|refusal| (refusal.code, refusal.place)), Err((6, 0)));
+}
+
+/// The plan with so many constraints, its own over and over.
+fn with_constraints(plan: Numbers, count: usize) -> Numbers {
+    Numbers { constraints: plan.constraints.iter().copied().cycle().take(4 * count).collect(), ..plan }
 }
 
 #[test]
 fn lists_of_any_length() {
     let mut cases = Vec::new();
     for count in 0..=30 {
-        let constraints = sheet_a().constraints.into_iter().cycle().take(4 * count).collect();
-        let plan = Numbers { constraints, ..sheet_a() };
         let moves = vec![1, 2, 2, 2, 3, 2, 3, 4, 1, 4, 1, 5, 5, 2, 0];
-        cases.extend([ByRecords::called(Call::new(plan.clone(), moves)), ByRecords::written(Writing::new(plan))]);
+        cases.push(ByRecords::called(Call::new(with_constraints(sheet_a_with_flights(), count), moves)));
+        cases.push(ByRecords::written(Writing::new(with_constraints(sheet_a(), count))));
     }
     all_cases("lists of any length", cases);
 }
 
+/// The plan with each damage alone, and with each later one besides.
+fn damaged_plans(plan: &Numbers, damages: Vec<PlanDamage>) -> impl Iterator<Item = Numbers> {
+    let damage = |(code, place, damage): PlanDamage| -> Damage<Numbers> { (code, place, Box::new(damage)) };
+    let damages: Vec<_> = damages.into_iter().map(damage).collect();
+    damaged(plan, &damages).into_iter().map(|(_, _, plan)| plan)
+}
+
 #[test]
 fn every_refusal_in_order() {
-    let mut damages: Vec<Damage<Numbers>> = Vec::new();
-    for &(code, place, damage) in PLAN_DAMAGES {
-        damages.push((code, place, Box::new(damage)));
-    }
-    let plans = damaged(&sheet_a(), &damages).into_iter().map(|(_, _, plan)| plan);
-    let (call, writing) = (Call::new(sheet_a(), vec![]), Writing::new(sheet_a()));
-    let cases = plans.flat_map(|plan| {
-        let call = Call { plan: plan.clone(), ..call.clone() };
-        [ByRecords::called(call), ByRecords::written(Writing { plan, ..writing.clone() })]
-    });
-    all_cases("refusals by records", cases);
+    let call = Call::new(sheet_a_with_flights(), vec![]);
+    let calls = damaged_plans(&call.plan, judged_damages()).map(|plan| ByRecords::called(Call { plan, ..call.clone() }));
+    all_cases("refused calls by records", calls);
+    let writing = Writing::new(sheet_a());
+    let writings =
+        damaged_plans(&writing.plan, stored_damages()).map(|plan| ByRecords::written(Writing { plan, ..writing.clone() }));
+    all_cases("refused writings by records", writings);
 }

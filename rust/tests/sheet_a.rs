@@ -9,28 +9,14 @@ mod plans;
 mod reference;
 mod sheets;
 
-use calls::{by_archive, by_library, by_reference, Answer, Call, Memory};
-use cases::Memory as _;
+use calls::asked;
 use plans::{sheet_a, Numbers};
 use reference::fletcher;
 use sheets::{numbers_in, reading, writing, Sheet, Writing};
 
-/// The answer to these moves on a plan and what they leave, the same from all.
-fn asked(plan: &Numbers, moves: &[u64]) -> (Answer, Memory) {
-    let call = Call::new(plan.clone(), moves.to_vec());
-    let mut memory = Memory::of(&call);
-    let answer = by_reference(&mut memory);
-    for other in [by_library, by_archive] {
-        let mut others = Memory::of(&call);
-        assert_eq!(other(&mut others), answer);
-        assert_eq!(others.same_as(&memory), Ok(()));
-    }
-    (answer, memory)
-}
-
 /// The rows of these moves on sheet A.
 fn rows(moves: &[u64]) -> Vec<i64> {
-    asked(&sheet_a(), moves).1.rows.content().to_vec()
+    calls::rows(&sheet_a(), moves)
 }
 
 #[test]
@@ -71,6 +57,8 @@ fn empty_sectors_count() {
         sectors: 64,
         workloads: vec![0],
         edges: vec![],
+        counts: vec![],
+        visits: vec![],
         constraints: vec![4, 6, 1, 1],
         colouring: vec![1],
     };

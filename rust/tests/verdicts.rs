@@ -49,7 +49,7 @@ impl Case for Printed {
         let due = Verdicts::of(&bytes);
         let (text, text_due) = (printed(&bytes), due.text());
         if text != text_due {
-            return Err(format!("the program prints {text:?}, document 01 asks for {text_due:?}"));
+            return Err(format!("the program prints {text:?}, the documents ask for {text_due:?}"));
         }
         Ok(reading::code(due.code, due.place))
     }

@@ -9,7 +9,7 @@ mod reference;
 mod sheets;
 
 use cases::{all_cases, random_cases, shrink, Case, Code};
-use plans::{damaged, largest_plan, sheet_a, Damage, Numbers, Random, PLAN_DAMAGES};
+use plans::{damaged, largest_plan, sheet_a, stored_damages, Damage, Numbers, Random};
 use reference::*;
 use sheets::writing::{by_reference, compare, Answer, Memory};
 use sheets::{files, numbers_in, plans_at_block_ends, reading, Sheet, Writing};
@@ -57,7 +57,7 @@ fn rooms_around_the_limit() {
 #[test]
 fn every_refusal_in_order() {
     let mut damages: Vec<Damage<Writing>> = Vec::new();
-    for &(code, place, damage) in PLAN_DAMAGES {
+    for (code, place, damage) in stored_damages() {
         damages.push((code, place, Box::new(move |writing| damage(&mut writing.plan))));
     }
     for room in [0, 1, 512, 2_048, 2_559] {
@@ -108,13 +108,13 @@ struct Again(Sheet);
 impl Case for Again {
     fn compare(&self) -> Result<Code, String> {
         let bytes = self.0.bytes();
-        let Numbers { regions, sectors, workloads, edges, constraints, colouring } = match numbers_in(&bytes, reading::by_library)
-        {
-            Ok(numbers) => numbers,
+        let plan = match numbers_in(&bytes, reading::by_library) {
+            Ok(plan) => plan,
             Err(code) => return Ok(code),
         };
         let mut written = vec![0; bytes.len()];
-        let count = library::write(regions, sectors, &workloads, &edges, &constraints, &colouring, &mut written);
+        let [workloads, edges, constraints, colouring] = plan.lists();
+        let count = library::write(plan.regions, plan.sectors, workloads, edges, constraints, colouring, &mut written);
         if count != Ok(bytes.len()) {
             return Err(format!("{} bytes are read, and writing them answers {count:?}", bytes.len()));
         }

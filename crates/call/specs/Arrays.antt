@@ -1,21 +1,29 @@
--- The arrays that a call keeps of its own: their fronts are as long as the plan asks, and hold its neighbours.
+-- The arrays that a call keeps of its own: their fronts are as long as the plan asks, and hold its neighbours, its constraints of kind 5 and the flights that visit each region.
 -- Assumes nothing.
-use Prim.Native.Nat.{ℕ, _+_, _-_, _*_, _/_, _≤_}
+use Prim.Native.Nat.{ℕ, _+_, _-_, _*_, _/_, _≤_, _<_}
+use native.Mathlib.Nat.{le-trans}
 use native.Mathlib.Omega.{arith}
-use mathlib.Core.Path.{_≡_, sym, ap, _∙_}
+use mathlib.Core.Path.{_≡_, refl, sym, ap, _∙_}
 use mathlib.Core.List.{List, _++_}
 use lib.ListN.{length, take, drop, replicate, length-replicate}
 use lib.Seq.{length-take-le, length-front, take-at}
 use Rattle.lists.specs.Sums.{sum}
+use Rattle.lists.specs.SumLaws.{few-bound, every-turn}
 use Rattle.lists.specs.ListLaws.{length-listOf}
-use Rattle.meaning.specs.Plan.{Plan, planOf, edgeLength, edgeAt, edgesOf, constraintAt, constraintsOf, mostRegions, mostEdges, mostConstraints}
+use Rattle.meaning.specs.Plan.{Plan, planOf, edgeLength, visitLength, constraintLength, edgeAt, edgesOf, constraintAt, constraintsOf, mostRegions, mostEdges, mostFlights, mostVisits, mostConstraints}
+use Rattle.meaning.specs.Flights.{length-flightsOf}
 use Rattle.meaning.specs.Paths.{Ends, limits-ends}
+use Rattle.meaning.specs.Prices.{timed}
+use Rattle.meaning.specs.PriceLaws.{timed-few, timed-limits}
+use Rattle.flights.specs.Flying.{Flying, Timing}
+use Rattle.visitors.specs.Visitors.{Visitors}
 use Rattle.refusals.specs.Table.{Given}
 use Rattle.refusals.specs.Valid.{Valid}
 use Rattle.judge.specs.Figures.{constraintCount}
 use Rattle.judge.specs.FigureLaws.{whole-by}
 use Rattle.neighbours.specs.Table.{Table}
 use Rattle.engine.specs.State.{Setting, Opening}
+use Rattle.engine.specs.Flown.{Priced, Flown}
 
 -- an array of N zeros
 abbrev zeros : ℕ → List ℕ
@@ -30,15 +38,33 @@ module _ (n N : ℕ) (h : n ≤ N) where
   length-lent : length (take n (zeros N)) ≡ n
   length-lent = length-take-le n (zeros N) (rw (length-zeros N) h)
 
-  -- where its front was lent and came back as f, its front is f
-  take-back : (f : List ℕ) → length f ≡ length (take n (zeros N)) → take n (f ++ drop n (zeros N)) ≡ f
-  take-back f k = take-at f (drop n (zeros N)) n (k ∙ length-lent)
+  -- where its front was lent and came back as f
+  module _ (f : List ℕ) (k : length f ≡ length (take n (zeros N))) where
+    -- it has room for the front still
+    back-room : n ≤ length (f ++ drop n (zeros N))
+    back-room = rw (length-front (zeros N) f n k, length-zeros N) h
+
+    -- its front is f
+    take-back : take n (f ++ drop n (zeros N)) ≡ f
+    take-back = take-at f (drop n (zeros N)) n (k ∙ length-lent)
+
+    -- and as long as was asked for
+    back-length : length (take n (f ++ drop n (zeros N))) ≡ n
+    back-length = ap length take-back ∙ k ∙ length-lent
 
 -- ---- what a valid call lends
 
 -- the plan that a call is given
 abbrev planGiven : Given → Plan
-planGiven g = planOf (g .R) (g .S) (g .workloads) (g .edges) (g .constraints)
+planGiven g = planOf (g .R) (g .S) (g .workloads) (g .edges) (g .counts) (g .visits) (g .constraints)
+
+-- how many starts there are where flights visit regions: one for each region and each flight, and one more
+abbrev pub rowCount : Given → ℕ
+rowCount g = g .R + length (g .counts) + 1
+
+-- so many there may be
+abbrev pub mostRows : ℕ
+mostRows = mostRegions + mostFlights + 1
 
 -- the front of the array of starts: one for each region, and one more
 abbrev startsOf : Given → List ℕ
@@ -73,7 +99,7 @@ module _ {g : Given} (v : Valid g) where
   module _ (start : List ℕ) (k : length start ≡ length (startsOf g)) where
     -- the array has room for its front still
     pub starts-room : g .R + 1 ≤ length (startsBack g start)
-    starts-room = rw (length-front (zeros (mostRegions + 1)) start (g .R + 1) k, length-zeros (mostRegions + 1)) few-regions
+    starts-room = back-room (g .R + 1) (mostRegions + 1) few-regions start k
 
     -- its front is as it came back
     starts-back : take (g .R + 1) (startsBack g start) ≡ start
@@ -81,7 +107,7 @@ module _ {g : Given} (v : Valid g) where
 
     -- and is as long as it was
     pub starts-length : length (take (g .R + 1) (startsBack g start)) ≡ g .R + 1
-    starts-length = ap length starts-back ∙ k ∙ starts-lent
+    starts-length = back-length (g .R + 1) (mostRegions + 1) few-regions start k
 
     -- with the neighbours gathered and the workloads summed, all is known that no move changes
     pub gathered-setting : {W : ℕ} {near areas : List ℕ} → W ≡ sum (g .workloads) (λ w. w) → Table (length (startsOf g) - 1) (edgesOf (g .edges)) start near areas
@@ -111,3 +137,66 @@ module _ {g : Given} (v : Valid g) where
   pub lent-opening : (w : List ℕ) → length w ≡ g .work → Opening (planGiven g) (g .colouring) w (take (constraintCount (g .constraints)) (zeros mostConstraints))
   lent-opening w e =
       record { coloured = v .plan .coloured; room = omega (arith, v .work-room); gauges = gauges-lent ∙ sym constraints-length }
+
+  -- ---- the flights
+
+  -- they are within the limits
+  pub valid-flying : Flying (g .R) (g .counts) (g .visits)
+  valid-flying =
+      record {
+        few = rw (length-flightsOf (g .counts) (g .visits)) at (v .plan .limits .flights);
+        count = v .plan .count;
+        size = v .plan .visits-whole;
+        flight = v .plan .limits .flight;
+      }
+
+  -- there is room for the constraints of kind 5
+  pub timed-fit : length (g .constraints) ≤ constraintLength * mostConstraints
+  timed-fit = omega (arith, v .plan .constraints-whole, gauges-fit)
+
+  -- with these picked out the flights can be priced
+  pub picked-priced : {picked : List ℕ} → constraintsOf picked ≡ timed (constraintsOf (g .constraints)) → Priced (planGiven g) picked (g .counts) (g .visits)
+  picked-priced e =
+      record {
+        flying = valid-flying;
+        timing = timing e;
+        flights = refl;
+        picked = e;
+      }
+    where
+      timing : {picked : List ℕ} → constraintsOf picked ≡ timed (constraintsOf (g .constraints)) → Timing picked
+      timing e =
+          record {
+            few = rw e (le-trans (timed-few (constraintsOf (g .constraints))) (v .plan .limits .constraints));
+            constraint = rw e (timed-limits (constraintsOf (g .constraints)) (v .plan .limits .constraint));
+          }
+
+  -- there is room for the starts
+  few-rows : rowCount g ≤ mostRows
+  few-rows = omega (arith, v .plan .limits .R .high, valid-flying .few)
+
+  -- the front has so many
+  pub rows-lent : length (take (rowCount g) (zeros mostRows)) ≡ rowCount g
+  rows-lent = length-lent (rowCount g) mostRows few-rows
+
+  -- there is room for the visits
+  pub visits-fit : length (g .visits) ≤ visitLength * (mostFlights * mostVisits)
+  visits-fit = omega (arith, v .plan .visits-whole, few-bound mostFlights mostVisits (g .counts) (λ n. n) (valid-flying .few) (every-turn (λ n i. i .high) (g .counts) (v .plan .count)))
+
+  module _ (starts : List ℕ) (k : length starts ≡ length (take (rowCount g) (zeros mostRows))) where
+    -- the array has room for its front still
+    pub rows-room : rowCount g ≤ length (starts ++ drop (rowCount g) (zeros mostRows))
+    rows-room = back-room (rowCount g) mostRows few-rows starts k
+
+    -- which is as long as it was
+    pub rows-length : length (take (rowCount g) (starts ++ drop (rowCount g) (zeros mostRows))) ≡ rowCount g
+    rows-length = back-length (rowCount g) mostRows few-rows starts k
+
+    -- with the visitors gathered all is known of the flights that no move changes
+    pub gathered-flown : {picked flights firsts : List ℕ} → Priced (planGiven g) picked (g .counts) (g .visits) → Visitors (g .R) (g .counts) (g .visits) starts flights firsts
+        → Flown (planGiven g) picked (g .counts) (g .visits) (take (rowCount g) (starts ++ drop (rowCount g) (zeros mostRows))) flights firsts
+    gathered-flown p t = record { priced = p; table = λ _. rw (take-back (rowCount g) mostRows few-rows starts k) t }
+
+  -- with no constraint of kind 5 none need be gathered
+  pub empty-flown : {picked visited flights firsts : List ℕ} → length picked ≡ 0 → Priced (planGiven g) picked (g .counts) (g .visits) → Flown (planGiven g) picked (g .counts) (g .visits) visited flights firsts
+  empty-flown e p = record { priced = p; table = λ h. absurd (omega (arith, e)) }

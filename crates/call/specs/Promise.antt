@@ -1,4 +1,4 @@
--- Document 01, "The call and what it refuses": what a call answers and what it leaves in the lent memory.
+-- Document 01, "The call and what it refuses", and document 02, C-11: what a call answers and what it leaves in the lent memory.
 -- Assumes nothing.
 use Prim.Native.Nat.{ℕ, _+_, _*_, _/_}
 use mathlib.Core.Path.{_≡_, sym, _∙_}
@@ -21,6 +21,8 @@ pub record Input : Type 0 where
   pub S : ℕ
   pub workloads : List ℕ
   pub edges : List ℕ
+  pub counts : List ℕ
+  pub visits : List ℕ
   pub constraints : List ℕ
   pub colouring : List ℕ
   pub moves : List ℕ
@@ -44,6 +46,8 @@ given i =
       S = i .S;
       workloads = i .workloads;
       edges = i .edges;
+      counts = i .counts;
+      visits = i .visits;
       constraints = i .constraints;
       colouring = i .colouring;
       moves = i .moves;
@@ -53,7 +57,7 @@ given i =
     }
 
 abbrev pub planIn : Input → Plan
-planIn i = planOf (i .R) (i .S) (i .workloads) (i .edges) (i .constraints)
+planIn i = planOf (i .R) (i .S) (i .workloads) (i .edges) (i .counts) (i .visits) (i .constraints)
 
 abbrev pub movesIn : Input → List Move
 movesIn i = movesOf (planIn i) (i .moves)
@@ -105,13 +109,15 @@ pub unique : {i : Input} {o o′ : Outcome} → Promise i o → Promise i o′ �
 unique p q = is-outcome p ∙ sym (is-outcome q)
 
 -- an input and an outcome from their parts
-abbrev pub input : ℕ → ℕ → List ℕ → List ℕ → List ℕ → List ℕ → List ℕ → List ℤ → List ℕ → List ℕ → Input
-input R S workloads edges constraints colouring moves rows verdicts work =
+abbrev pub input : ℕ → ℕ → List ℕ → List ℕ → List ℕ → List ℕ → List ℕ → List ℕ → List ℕ → List ℤ → List ℕ → List ℕ → Input
+input R S workloads edges counts visits constraints colouring moves rows verdicts work =
     record {
       R = R;
       S = S;
       workloads = workloads;
       edges = edges;
+      counts = counts;
+      visits = visits;
       constraints = constraints;
       colouring = colouring;
       moves = moves;

@@ -4,18 +4,25 @@ ghost use lib.ListN.{length};
 ghost use Rattle.refusals.specs.Valid.{Valid};
 ghost use Rattle.call.specs.Promise.{Input, Promise, input, given, planIn, left, ran};
 ghost use Rattle.engine.specs.State.{Setting, Opening};
+ghost use Rattle.engine.specs.Flown.{Priced, Flown};
 
 mod rows; // rows.rt: a row, and where it is put down
 mod turns; // turns.rt: the moves in turn
 
-use judge::tallies::sum_of;
+use flights::gauging::gauge_dwells;
+use flights::picking::pick_timed;
 use judge::verdicts::put_verdicts;
+use lists::sum_of;
 use neighbours::gather;
 use refusals::call_refusal;
 use terms::limits::CONSTRAINT_LENGTH;
 use terms::limits::MOST_CONSTRAINTS;
 use terms::limits::MOST_EDGES;
+use terms::limits::MOST_FLIGHTS;
 use terms::limits::MOST_REGIONS;
+use terms::limits::MOST_VISITS;
+use terms::limits::VISIT_LENGTH;
+use visitors::gather_visitors;
 
 // What a call answers: a refusal's code and place, or code 0 with the total before the moves and after them.
 #[repr(C)]
@@ -32,10 +39,16 @@ fn judge_all(
     whole: u64,
     workloads: &[u64],
     edges: &[u64],
+    counts: &[u64],
+    visits: &[u64],
     constraints: &[u64],
     start: &[u64],
     near: &[u64],
     areas: &[u64],
+    timed: &[u64],
+    visited: &[u64],
+    flights: &[u64],
+    firsts: &[u64],
     moves: &[u64],
     colouring: &mut [u64],
     rows: &mut [i64],
@@ -45,10 +58,11 @@ fn judge_all(
     queue: &mut [u64],
 ) -> Answer
     ghost { Input }
-    requires { λ i. ⌜ input (length (now workloads)) sectors (now workloads) (now edges) (now constraints) (now colouring) (now moves) (now rows) (now verdicts) (now work) ≡ i ⌝ }
+    requires { λ i. ⌜ input (length (now workloads)) sectors (now workloads) (now edges) (now counts) (now visits) (now constraints) (now colouring) (now moves) (now rows) (now verdicts) (now work) ≡ i ⌝ }
     requires { λ i. ⌜ Valid (given i) ⌝ }
     requires { λ i. ⌜ Setting (planIn i) whole (now start) (now near) (now areas) (now queue) ⌝ }
     requires { λ i. ⌜ Opening (planIn i) (now colouring) (now work) (now gauges) ⌝ }
+    requires { λ i. ⌜ Flown (planIn i) (now timed) (now counts) (now visits) (now visited) (now flights) (now firsts) ⌝ }
     ensures { λ i r. ⌜ left r (now (colouring .exit)) (now (rows .exit)) (now (verdicts .exit)) (now (work .exit)) ≡ ran i ⌝ }
 {
     let first = engine::begin(
@@ -56,10 +70,13 @@ fn judge_all(
         whole,
         workloads,
         edges,
+        counts,
+        visits,
         constraints,
         start,
         near,
         areas,
+        timed,
         colouring,
         work,
         gauges,
@@ -70,10 +87,16 @@ fn judge_all(
         whole,
         workloads,
         edges,
+        counts,
+        visits,
         constraints,
         start,
         near,
         areas,
+        timed,
+        visited,
+        flights,
+        firsts,
         moves,
         colouring,
         work,
@@ -82,6 +105,7 @@ fn judge_all(
         rows,
         first,
     );
+    gauge_dwells(constraints, counts, visits, colouring, gauges);
     let figures = last.figures;
     put_verdicts(constraints, figures, gauges, verdicts);
     let at = workloads.len() + 2 * sectors as usize;
@@ -94,12 +118,81 @@ fn judge_all(
     }
 }
 
+// Does what is asked of a call that has constraints of kind 5: the flights that visit each region are gathered first.
+fn run_timed(
+    sectors: u64,
+    whole: u64,
+    workloads: &[u64],
+    edges: &[u64],
+    counts: &[u64],
+    visits: &[u64],
+    constraints: &[u64],
+    start: &[u64],
+    near: &[u64],
+    areas: &[u64],
+    timed: &[u64],
+    moves: &[u64],
+    colouring: &mut [u64],
+    rows: &mut [i64],
+    verdicts: &mut [u64],
+    work: &mut [u64],
+    gauges: &mut [u64],
+    queue: &mut [u64],
+) -> Answer
+    ghost { Input }
+    requires { λ i. ⌜ input (length (now workloads)) sectors (now workloads) (now edges) (now counts) (now visits) (now constraints) (now colouring) (now moves) (now rows) (now verdicts) (now work) ≡ i ⌝ }
+    requires { λ i. ⌜ Valid (given i) ⌝ }
+    requires { λ i. ⌜ Setting (planIn i) whole (now start) (now near) (now areas) (now queue) ⌝ }
+    requires { λ i. ⌜ Opening (planIn i) (now colouring) (now work) (now gauges) ⌝ }
+    requires { λ i. ⌜ Priced (planIn i) (now timed) (now counts) (now visits) ⌝ }
+    ensures { λ i r. ⌜ left r (now (colouring .exit)) (now (rows .exit)) (now (verdicts .exit)) (now (work .exit)) ≡ ran i ⌝ }
+{
+    let mut visited = [0u64; (MOST_REGIONS + MOST_FLIGHTS) as usize + 1];
+    let mut flights = [0u64; VISIT_LENGTH * (MOST_FLIGHTS * MOST_VISITS) as usize];
+    let mut firsts = [0u64; VISIT_LENGTH * (MOST_FLIGHTS * MOST_VISITS) as usize];
+    let regions = workloads.len();
+    let starts = regions + counts.len() + 1;
+    gather_visitors(
+        counts,
+        visits,
+        regions as u64,
+        &mut visited[..starts],
+        &mut flights,
+        &mut firsts,
+    );
+    judge_all(
+        sectors,
+        whole,
+        workloads,
+        edges,
+        counts,
+        visits,
+        constraints,
+        start,
+        near,
+        areas,
+        timed,
+        &visited[..starts],
+        &flights,
+        &firsts,
+        moves,
+        colouring,
+        rows,
+        verdicts,
+        work,
+        gauges,
+        queue,
+    )
+}
+
 // Does what is asked of a call that is not refused.
 fn run(
     regions: u64,
     sectors: u64,
     workloads: &[u64],
     edges: &[u64],
+    counts: &[u64],
+    visits: &[u64],
     constraints: &[u64],
     moves: &[u64],
     colouring: &mut [u64],
@@ -108,28 +201,58 @@ fn run(
     work: &mut [u64],
 ) -> Answer
     ghost { Input }
-    requires { λ i. ⌜ input regions sectors (now workloads) (now edges) (now constraints) (now colouring) (now moves) (now rows) (now verdicts) (now work) ≡ i ⌝ }
+    requires { λ i. ⌜ input regions sectors (now workloads) (now edges) (now counts) (now visits) (now constraints) (now colouring) (now moves) (now rows) (now verdicts) (now work) ≡ i ⌝ }
     requires { λ i. ⌜ Valid (given i) ⌝ }
     ensures { λ i r. ⌜ left r (now (colouring .exit)) (now (rows .exit)) (now (verdicts .exit)) (now (work .exit)) ≡ ran i ⌝ }
 {
     let mut start = [0u64; MOST_REGIONS as usize + 1];
     let mut near = [0u64; 2 * MOST_EDGES as usize];
     let mut areas = [0u64; 2 * MOST_EDGES as usize];
+    let mut timed = [0u64; CONSTRAINT_LENGTH * MOST_CONSTRAINTS as usize];
     let mut gauges = [0u64; MOST_CONSTRAINTS as usize];
     let mut queue = [0u64; MOST_REGIONS as usize + 1];
     let starts = regions as usize + 1;
     let count = constraints.len() / CONSTRAINT_LENGTH;
     gather(edges, &mut start[..starts], &mut near, &mut areas);
     let whole = sum_of(workloads);
-    judge_all(
+    let picked = CONSTRAINT_LENGTH * pick_timed(constraints, &mut timed);
+    if picked == 0 {
+        return judge_all(
+            sectors,
+            whole,
+            workloads,
+            edges,
+            counts,
+            visits,
+            constraints,
+            &start[..starts],
+            &near,
+            &areas,
+            &timed[..picked],
+            &[],
+            &[],
+            &[],
+            moves,
+            colouring,
+            rows,
+            verdicts,
+            work,
+            &mut gauges[..count],
+            &mut queue,
+        );
+    }
+    run_timed(
         sectors,
         whole,
         workloads,
         edges,
+        counts,
+        visits,
         constraints,
         &start[..starts],
         &near,
         &areas,
+        &timed[..picked],
         moves,
         colouring,
         rows,
@@ -146,6 +269,8 @@ pub fn judge(
     sectors: u64,
     workloads: &[u64],
     edges: &[u64],
+    counts: &[u64],
+    visits: &[u64],
     constraints: &[u64],
     colouring: &mut [u64],
     moves: &[u64],
@@ -153,13 +278,15 @@ pub fn judge(
     verdicts: &mut [u64],
     work: &mut [u64],
 ) -> Answer
-    ensures { λ r. ⌜ Promise (input regions sectors (now (workloads .entry)) (now (edges .entry)) (now (constraints .entry)) (now (colouring .entry)) (now (moves .entry)) (now (rows .entry)) (now (verdicts .entry)) (now (work .entry))) (left r (now (colouring .exit)) (now (rows .exit)) (now (verdicts .exit)) (now (work .exit))) ⌝ }
+    ensures { λ r. ⌜ Promise (input regions sectors (now (workloads .entry)) (now (edges .entry)) (now (counts .entry)) (now (visits .entry)) (now (constraints .entry)) (now (colouring .entry)) (now (moves .entry)) (now (rows .entry)) (now (verdicts .entry)) (now (work .entry))) (left r (now (colouring .exit)) (now (rows .exit)) (now (verdicts .exit)) (now (work .exit))) ⌝ }
 {
     let refusal = call_refusal(
         regions,
         sectors,
         workloads,
         edges,
+        counts,
+        visits,
         constraints,
         colouring,
         moves,
@@ -180,6 +307,8 @@ pub fn judge(
         sectors,
         workloads,
         edges,
+        counts,
+        visits,
         constraints,
         moves,
         colouring,

@@ -9,6 +9,7 @@ ghost use Rattle.meaning.specs.Plan.{Plan, planOf};
 ghost use Rattle.meaning.specs.Moves.{moveLength, rowLength, moveAt, movesOf, next, row, cells, last};
 ghost use Rattle.meaning.specs.Moves as meaning;
 ghost use Rattle.engine.specs.State.{Setting, Ready, Opened};
+ghost use Rattle.engine.specs.Flown.{Flown};
 use crate::rows::Row;
 use crate::rows::put_row;
 use engine::Standing;
@@ -41,10 +42,16 @@ fn turn(
     whole: u64,
     workloads: &[u64],
     edges: &[u64],
+    counts: &[u64],
+    visits: &[u64],
     constraints: &[u64],
     start: &[u64],
     near: &[u64],
     areas: &[u64],
+    timed: &[u64],
+    visited: &[u64],
+    flights: &[u64],
+    firsts: &[u64],
     moves: &[u64],
     k: usize,
     colouring: &mut [u64],
@@ -55,11 +62,12 @@ fn turn(
     standing: Standing,
 ) -> Standing
     ghost { Plan }
-    requires { λ P. ⌜ planOf (length (now workloads)) sectors (now workloads) (now edges) (now constraints) ≡ P ⌝ }
+    requires { λ P. ⌜ planOf (length (now workloads)) sectors (now workloads) (now edges) (now counts) (now visits) (now constraints) ≡ P ⌝ }
     requires { λ P. ⌜ Setting P whole (now start) (now near) (now areas) (now queue) ⌝ }
     requires { λ P. ⌜ Ready P (now colouring) (now work) (now gauges) standing ⌝ }
     requires { λ P. ⌜ moveLength * k + moveLength ≤ length (now moves) ⌝ }
     requires { λ P. ⌜ rowLength * k + rowLength ≤ length (now rows) ⌝ }
+    requires { λ P. ⌜ Flown P (now timed) (now counts) (now visits) (now visited) (now flights) (now firsts) ⌝ }
     ensures { λ P r. ⌜ Opened P (next (now (colouring .entry)) (moveAt P (now (moves .entry)) k)) (now (work .entry)) (now (colouring .exit)) (now (work .exit)) (now (gauges .exit)) r ⌝ }
     ensures { λ P r. ⌜ now (rows .exit) ≡ sets (now (rows .entry)) (rowLength * k) (cells (row P (now (colouring .entry)) (moveAt P (now (moves .entry)) k))) ⌝ }
 {
@@ -76,10 +84,16 @@ fn turn(
         whole,
         workloads,
         edges,
+        counts,
+        visits,
         constraints,
         start,
         near,
         areas,
+        timed,
+        visited,
+        flights,
+        firsts,
         colouring,
         work,
         gauges,
@@ -105,10 +119,16 @@ pub fn all_moves(
     whole: u64,
     workloads: &[u64],
     edges: &[u64],
+    counts: &[u64],
+    visits: &[u64],
     constraints: &[u64],
     start: &[u64],
     near: &[u64],
     areas: &[u64],
+    timed: &[u64],
+    visited: &[u64],
+    flights: &[u64],
+    firsts: &[u64],
     moves: &[u64],
     colouring: &mut [u64],
     work: &mut [u64],
@@ -118,10 +138,11 @@ pub fn all_moves(
     first: Standing,
 ) -> Standing
     ghost { Plan }
-    requires { λ P. ⌜ planOf (length (now workloads)) sectors (now workloads) (now edges) (now constraints) ≡ P ⌝ }
+    requires { λ P. ⌜ planOf (length (now workloads)) sectors (now workloads) (now edges) (now counts) (now visits) (now constraints) ≡ P ⌝ }
     requires { λ P. ⌜ Setting P whole (now start) (now near) (now areas) (now queue) ⌝ }
     requires { λ P. ⌜ Ready P (now colouring) (now work) (now gauges) first ⌝ }
     requires { λ P. ⌜ rowLength * (length (now moves) / moveLength) ≤ length (now rows) ⌝ }
+    requires { λ P. ⌜ Flown P (now timed) (now counts) (now visits) (now visited) (now flights) (now firsts) ⌝ }
     ensures { λ P r. ⌜ Opened P (last (now (colouring .entry)) (movesOf P (now (moves .entry)))) (now (work .entry)) (now (colouring .exit)) (now (work .exit)) (now (gauges .exit)) r ⌝ }
     ensures { λ P r. ⌜ now (rows .exit) ≡ meaning.rows P (now (colouring .entry)) (movesOf P (now (moves .entry))) ++ drop (rowLength * (length (now (moves .entry)) / moveLength)) (now (rows .entry)) ⌝ }
 {
@@ -134,10 +155,16 @@ pub fn all_moves(
             whole,
             workloads,
             edges,
+            counts,
+            visits,
             constraints,
             start,
             near,
             areas,
+            timed,
+            visited,
+            flights,
+            firsts,
             moves,
             k,
             colouring,

@@ -1,10 +1,11 @@
 -- What changes between two colourings, where only two sectors differ in components and workload: by a recolouring, or by two in turn.
 -- Assumes nothing.
-use Prim.Native.Nat.{ℕ, _+_, _-_, _*_, _≤_}
+use Prim.Native.Nat.{ℕ, _+_, _-_, _*_, _≤_, _<_, _^_}
 use native.Mathlib.Omega.{arith}
 use mathlib.Core.Path.{_≡_, _∙_}
 use mathlib.Core.Logic.{_≢_}
 use mathlib.Core.List.{List}
+use mathlib.Core.Bool.{true}
 use lib.Dec.{eqb}
 use lib.ListN.{set}
 use Rattle.lists.specs.Sums.{In, at}
@@ -14,13 +15,16 @@ use Rattle.meaning.specs.Kinds.{ncc, load, border, counts, loads, leadsTo}
 use Rattle.meaning.specs.Moves.{recolour}
 use Rattle.meaning.specs.Faces.{lift, areaTo}
 use Rattle.meaning.specs.Bounds.{border-bound}
+use Rattle.meaning.specs.Prices.{mostDwellTotal, timed, visitorsPrice, dwellTotal}
+use Rattle.meaning.specs.PriceLaws.{dwell-recolour, dwell-total-bound, cost-bound}
 use Rattle.meaning.specs.Recoloured.{coloured-recolour, load-rest, ncc-rest, border-recolour}
 use Rattle.judge.specs.Small.{edges-small, area-bound}
 use Rattle.change.specs.declared.Pair.{Pair}
 use Rattle.change.specs.declared.Sides.{Sides}
+use Rattle.change.specs.declared.Swing.{Swing}
 use Rattle.change.specs.declared.Change.{Change}
-use Rattle.change.specs.Shift.{inTurn}
-use Rattle.change.specs.Small.{Addable}
+use Rattle.change.specs.Shift.{swing, together, inTurn}
+use Rattle.change.specs.Small.{Swings, Summable, Addable}
 
 -- the numbers of two sectors
 abbrev pub pairOf : (ℕ → ℕ) → ℕ → ℕ → Pair
@@ -30,7 +34,21 @@ pairOf f own d = record { old = f own; new = f d }
 abbrev pub sidesOf : Plan → List ℕ → ℕ → ℕ → Sides
 sidesOf P col own d = record { components = pairOf (ncc P col) own d; workloads = pairOf (load P col) own d }
 
--- the change is that from a colouring to another: of all sectors only two differ in components and workload, and the border gains no more than two recolourings can add
+-- a figure goes from x to x′ by what it gains and loses, and gains no more than two recolourings can add, each of them B
+pub record Swung (x x′ B : ℕ) (s : Swing) : Type 0 where
+  pub sum : x′ + s .lost ≡ x + s .gained
+  pub gained : s .gained ≤ 2 * B
+
+module _ {x x′ B : ℕ} {s : Swing} (w : Swung x x′ B s) where
+  -- the figure can follow
+  pub swung-fits : x ≤ B → 3 * B < 2 ^ 64 → Swings x s
+  swung-fits h room = record { low = omega (arith, w .sum); high = omega (arith, w .gained) }
+
+  -- and then is x′
+  pub swung-swing : swing x s ≡ x′
+  swung-swing = omega (arith, w .sum)
+
+-- the change is that from a colouring to another: of all sectors only two differ in components and workload
 pub record Changed (P : Plan) (col col′ : List ℕ) (own d : ℕ) (c : Change) : Type 0 where
   pub old : In (P .S) own
   pub new : In (P .S) d
@@ -39,8 +57,13 @@ pub record Changed (P : Plan) (col col′ : List ℕ) (own d : ℕ) (c : Change)
   pub before : c .before ≡ sidesOf P col own d
   pub after : c .after ≡ sidesOf P col′ own d
   pub others : (e : ℕ) → In (P .S) e → e ≢ own → e ≢ d → (ncc P col′ e ≡ ncc P col e) × (load P col′ e ≡ load P col e)
-  pub border : border P col′ + c .lost ≡ border P col + c .gained
-  pub gained : c .gained ≤ 2 * (mostEdges * mostArea)
+  pub border : Swung (border P col) (border P col′) (mostEdges * mostArea) (c .border)
+  pub dwell : Swung (dwellTotal P col) (dwellTotal P col′) mostDwellTotal (c .dwell)
+
+-- the change gains no more than one recolouring can add
+pub record Single (c : Change) : Type 0 where
+  pub border : c .border .gained ≤ mostEdges * mostArea
+  pub dwell : c .dwell .gained ≤ mostDwellTotal
 
 module _ {P : Plan} {col col′ : List ℕ} {own d : ℕ} {c : Change} (ch : Changed P col col′ own d c) where
   -- the component counts afterwards: two of those before are set anew
@@ -58,12 +81,17 @@ pub faces-bound : {P : Plan} → Limits P → (col : List ℕ) (v d : ℕ) → a
 unfolding areaTo
 faces-bound {P} l col v d = area-bound (edges-small P l) (leadsTo (λ u. eqb (at col u) d) v)
 
--- a region given to another sector is a change, where the numbers are those of the two colourings and of the region's faces
+-- what the flights that visit a region cost, by all their stretches
+abbrev pub costAt : Plan → List ℕ → ℕ → ℕ
+costAt P col v = visitorsPrice (timed (P .constraints)) col true v (P .flights)
+
+-- a region given to another sector is a change, where the numbers are those of the two colourings, of the region's faces and of the flights that visit it
 pub changed-recolour : {P : Plan} {col : List ℕ} {v d : ℕ} {c : Change} → Limits P → Coloured P col → In (P .R) v → In (P .S) d → d ≢ at col v
     → c .before ≡ sidesOf P col (at col v) d → c .after ≡ sidesOf P (recolour col v d) (at col v) d
-    → c .gained ≡ areaTo (P .edges) (lift col v) v (at col v) → c .lost ≡ areaTo (P .edges) (lift col v) v d
+    → c .border ≡ record { gained = areaTo (P .edges) (lift col v) v (at col v); lost = areaTo (P .edges) (lift col v) v d }
+    → c .dwell ≡ record { gained = costAt P (recolour col v d) v; lost = costAt P col v }
     → Changed P col (recolour col v d) (at col v) d c
-changed-recolour {col = col} {v = v} l k i j ne before after gained lost =
+changed-recolour {P} {col} {v} {d} l k i j ne before after border dwell =
     record {
       old = k .sector v i;
       new = j;
@@ -72,22 +100,31 @@ changed-recolour {col = col} {v = v} l k i j ne before after gained lost =
       before = before;
       after = after;
       others = λ e h n m. (ncc-rest l k i j ne e h m n, load-rest k i j ne e h m n);
-      border = rw (gained, lost) (border-recolour l k i j);
-      gained = omega (arith, gained, faces-bound l (lift col v) v (at col v));
+      border = rw border (record { sum = border-recolour l k i j; gained = omega (arith, faces-bound l (lift col v) v (at col v)) });
+      dwell = rw dwell (record { sum = dwell-recolour l i col d; gained = omega (arith, cost-bound l (recolour col v d) true v) });
     }
 
-module _ {P : Plan} {col mid col′ : List ℕ} {own d : ℕ} {first second : Change} (f : Changed P col mid own d first) (s : Changed P mid col′ d own second) where
-  -- the areas of two changes can be added up
+module _ {x y z B : ℕ} {first second : Swing} (f : Swung x y B first) (s : Swung y z B second) where
+  -- two swings in turn, of one recolouring each, can be added up
+  swung-summable : first .gained ≤ B → second .gained ≤ B → x ≤ B → y ≤ B → 4 * B < 2 ^ 64 → Summable first second
+  swung-summable g h p q room = record { gained = omega arith; lost = omega (arith, f .sum, s .sum) }
+
+  -- and are one
+  swung-in-turn : first .gained ≤ B → second .gained ≤ B → Swung x z B (together first second)
+  swung-in-turn g h = record { sum = omega (arith, f .sum, s .sum); gained = omega arith }
+
+module _ {P : Plan} {col mid col′ : List ℕ} {own d : ℕ} {first second : Change} (f : Changed P col mid own d first) (s : Changed P mid col′ d own second) (a : Single first) (b : Single second) where
+  -- what two changes gain and lose can be added up
   pub changed-addable : Limits P → Addable first second
   changed-addable l =
       record {
-        gained = omega (arith, f .gained, s .gained);
-        lost = omega (arith, f .gained, f .border, s .gained, s .border, border-bound P l col, border-bound P l mid);
+        border = swung-summable (f .border) (s .border) (a .border) (b .border) (border-bound P l col) (border-bound P l mid) (omega arith);
+        dwell = swung-summable (f .dwell) (s .dwell) (a .dwell) (b .dwell) (dwell-total-bound l col) (dwell-total-bound l mid) (omega arith);
       }
 
   -- two changes in turn, of which the second has the sectors the other way round, are one
-  pub changed-in-turn : first .gained + second .gained ≤ 2 * (mostEdges * mostArea) → Changed P col col′ own d (inTurn first second)
-  changed-in-turn few =
+  pub changed-in-turn : Changed P col col′ own d (inTurn first second)
+  changed-in-turn =
       record {
         old = f .old;
         new = f .new;
@@ -96,6 +133,6 @@ module _ {P : Plan} {col mid col′ : List ℕ} {own d : ℕ} {first second : Ch
         before = f .before;
         after = rw (s .after);
         others = λ e h n m. (s .others e h m n .0 ∙ f .others e h n m .0, s .others e h m n .1 ∙ f .others e h n m .1);
-        border = omega (arith, f .border, s .border);
-        gained = few;
+        border = swung-in-turn (f .border) (s .border) (a .border) (b .border);
+        dwell = swung-in-turn (f .dwell) (s .dwell) (a .dwell) (b .dwell);
       }

@@ -16,6 +16,8 @@ use Rattle.meaning.specs.Plan.{Constraint, Plan, Limits, ConstraintLimits, Colo
 use Rattle.meaning.specs.Kinds.{whole, border, counts, loads, deviation, bounded, total}
 use Rattle.meaning.specs.Components.{counts-length, counts-at, loads-length, loads-at, ncc-sum}
 use Rattle.meaning.specs.Bounds.{ncc-bound, load-bound, whole-bound, border-bound}
+use Rattle.meaning.specs.Prices.{dwellTotal}
+use Rattle.meaning.specs.PriceLaws.{dwell-total-bound}
 use Rattle.judge.specs.Figures.{figuresOf, gaugeOf, gauges, constraintCount, totalBy}
 use Rattle.judge.specs.FigureLaws.{gauges-listOf, gauge-at, total-by}
 use Rattle.judge.specs.Small.{mostLoad, mostGap, mostDistance, tallies-small, plan-small, constraint-limits}
@@ -24,7 +26,7 @@ use Rattle.change.specs.Shift.{each, shift, figuresAfter, gaugeAfter, ga
 use Rattle.change.specs.ShiftLaws.{total-by-gauges}
 use Rattle.change.specs.Small.{AtMost, Fits, Shifting, GaugeShifting, GaugesShifting, Totalling}
 use Rattle.change.specs.TwoTerms.{Shifts, shifts-set, shifts-sum, shifts-fit}
-use Rattle.change.specs.Changed.{Changed, changed-counts, changed-loads}
+use Rattle.change.specs.Changed.{Changed, swung-fits, swung-swing, changed-counts, changed-loads}
 
 module _ {P : Plan} {col col′ : List ℕ} {own d : ℕ} {c : Change} (l : Limits P) (k : Coloured P col) (ch : Changed P col col′ own d c) where
   -- the sums over the components of the sectors
@@ -64,12 +66,12 @@ module _ {P : Plan} {col col′ : List ℕ} {own d : ℕ} {c : Change} (l : Limi
       record {
         components = rw (← ncc-sum P col k) (counts-fit (λ n. n) (λ n h. h));
         excess = counts-fit (λ n. n - 1) (λ n h. omega arith);
-        lost = omega (arith, ch .border);
-        gained = omega (arith, ch .gained, border-bound P l col);
+        border = swung-fits (ch .border) (border-bound P l col) (omega arith);
         sectors = l .S .high;
         before = before-small;
         after = after-small;
         deviation = loads-fit (λ x. gap (P .S * x) (whole P)) {C = mostGap} (λ x h. omega (arith, mul-le-mul (l .S .high) h, whole-bound P l)) (omega arith);
+        dwell = swung-fits (ch .dwell) (dwell-total-bound l col) (omega arith);
       }
 
   -- the figures after the change are those of the new colouring
@@ -82,11 +84,9 @@ module _ {P : Plan} {col col′ : List ℕ} {own d : ℕ} {c : Change} (l : Limi
         shifts-sum counts-shift (λ n. n),
         shifts-sum counts-shift (λ n. n - 1),
         shifts-sum loads-shift (λ x. gap (P .S * x) (whole P)),
-        e,
+        swung-swing (ch .border),
+        swung-swing (ch .dwell),
       )
-    where
-      e : border P col + c .gained - c .lost ≡ border P col′
-      e = omega (arith, ch .border)
 
   -- a gauge can follow the change
   gauge-shifting : (q : Constraint) → ConstraintLimits q → GaugeShifting (gaugeOf P col q) q c

@@ -12,6 +12,7 @@ use Rattle.judge.specs.declared.Figures.{Figures}
 use Rattle.judge.specs.Figures.{violationBy}
 use Rattle.change.specs.declared.Pair.{Pair}
 use Rattle.change.specs.declared.Sides.{Sides}
+use Rattle.change.specs.declared.Swing.{Swing}
 use Rattle.change.specs.declared.Change.{Change}
 
 -- f of both numbers
@@ -34,14 +35,19 @@ offLimit relation limit workloads = each (λ x. distance relation x limit) workl
 abbrev pub shift : ℕ → Pair → Pair → ℕ
 shift sum before after = sum + (after .old + after .new) - (before .old + before .new)
 
+-- a figure that gains and loses
+abbrev pub swing : ℕ → Swing → ℕ
+swing x s = x + s .gained - s .lost
+
 -- the figures after the change, of S sectors and the whole workload W
 unfoldable pub figuresAfter : ℕ → ℕ → Figures → Change → Figures
 figuresAfter S W F c =
     record {
       components = shift (F .components) (c .before .components) (c .after .components);
       excess = shift (F .excess) (lessOne (c .before .components)) (lessOne (c .after .components));
-      border = F .border + c .gained - c .lost;
+      border = swing (F .border) (c .border);
       deviation = shift (F .deviation) (offBalance S W (c .before .workloads)) (offBalance S W (c .after .workloads));
+      dwell = swing (F .dwell) (c .dwell);
     }
 
 -- a constraint's gauge after the change
@@ -66,7 +72,7 @@ weightedAfter F gauges constraints c i =
 
 -- the total after the change, of the first n constraints of the flat list
 unfoldable pub totalAfter : Figures → List ℕ → List ℕ → ℕ → Change → ℕ
-totalAfter F gauges constraints n c = sum (from 0 n) (weightedAfter F gauges constraints c)
+totalAfter F gauges constraints n c = sum (from 0 n) (weightedAfter F gauges constraints c) + F .dwell
 
 -- the two sectors the other way round
 abbrev pub turnedRound : Sides → Sides
@@ -76,12 +82,16 @@ turnedRound s =
       workloads = record { old = s .workloads .new; new = s .workloads .old };
     }
 
+-- two swings in one
+abbrev pub together : Swing → Swing → Swing
+together first second = record { gained = first .gained + second .gained; lost = first .lost + second .lost }
+
 -- two changes in one, the second of which has the two sectors the other way round
 abbrev pub inTurn : Change → Change → Change
 inTurn first second =
     record {
       before = first .before;
       after = turnedRound (second .after);
-      gained = first .gained + second .gained;
-      lost = first .lost + second .lost;
+      border = together (first .border) (second .border);
+      dwell = together (first .dwell) (second .dwell);
     }

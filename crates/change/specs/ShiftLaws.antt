@@ -1,8 +1,8 @@
 -- The gauges after a change one by one, and the weighted violations and the total after it by them.
 -- Assumes nothing.
-use Prim.Native.Nat.{ℕ, _<_}
+use Prim.Native.Nat.{ℕ, _+_, _<_}
 use native.Mathlib.Omega.{arith}
-use mathlib.Core.Path.{_≡_}
+use mathlib.Core.Path.{_≡_, ap}
 use mathlib.Core.List.{List}
 use lib.ListN.{length, getD}
 use Rattle.lists.specs.Sums.{from}
@@ -32,4 +32,4 @@ module _ (gauges constraints : List ℕ) (n : ℕ) (c : Change) where
     -- and so the total
     pub total-by-gauges : totalAfter F gauges constraints n c ≡ totalBy F (gaugesAfter gauges constraints n c) constraints n
     unfolding totalAfter totalBy
-    total-by-gauges = sum-ext (from 0 n) _ _ (every-from _ 0 n (λ i lo hi. weighted-by i (omega arith)))
+    total-by-gauges = ap (λ t. t + F .dwell) (sum-ext (from 0 n) _ _ (every-from _ 0 n (λ i lo hi. weighted-by i (omega arith))))

@@ -10,6 +10,7 @@ use Rattle.judge.specs.declared.Figures.{Figures}
 use Rattle.judge.specs.Figures.{constraintCount, unweighted}
 use Rattle.judge.specs.Small.{Small, mostLoad, mostGauge, unweighted-limits, weighted-bound, total-bound}
 use Rattle.change.specs.declared.Pair.{Pair}
+use Rattle.change.specs.declared.Swing.{Swing}
 use Rattle.change.specs.declared.Change.{Change}
 use Rattle.change.specs.Shift.{lessOne, offBalance, offLimit, gaugesAfter, weightedAfter, totalAfter}
 use Rattle.change.specs.ShiftLaws.{weighted-by, total-by-gauges}
@@ -24,16 +25,21 @@ pub record Fits (sum : ℕ) (before after : Pair) : Type 0 where
   pub low : before .old + before .new ≤ sum + (after .old + after .new)
   pub high : sum + (after .old + after .new) < 2 ^ 64
 
+-- a figure has room for what it gains, and with it is no less than what it loses
+pub record Swings (x : ℕ) (s : Swing) : Type 0 where
+  pub low : s .lost ≤ x + s .gained
+  pub high : x + s .gained < 2 ^ 64
+
 -- the figures can follow the change
 pub record Shifting (S W : ℕ) (F : Figures) (c : Change) : Type 0 where
   pub components : Fits (F .components) (c .before .components) (c .after .components)
   pub excess : Fits (F .excess) (lessOne (c .before .components)) (lessOne (c .after .components))
-  pub lost : c .lost ≤ F .border + c .gained
-  pub gained : F .border + c .gained < 2 ^ 64
+  pub border : Swings (F .border) (c .border)
   pub sectors : S ≤ mostSectors
   pub before : AtMost mostLoad (c .before .workloads)
   pub after : AtMost mostLoad (c .after .workloads)
   pub deviation : Fits (F .deviation) (offBalance S W (c .before .workloads)) (offBalance S W (c .after .workloads))
+  pub dwell : Swings (F .dwell) (c .dwell)
 
 -- a constraint's gauge can follow the change
 pub record GaugeShifting (gauge : ℕ) (k : Constraint) (c : Change) : Type 0 where
@@ -52,10 +58,15 @@ pub record Totalling (F : Figures) (gauges constraints : List ℕ) (c : Change) 
   pub before : GaugesShifting gauges constraints c
   pub after : Small F (gaugesAfter gauges constraints (constraintCount constraints) c) constraints
 
--- the areas of two changes can be added up
-pub record Addable (first second : Change) : Type 0 where
+-- two swings can be added up
+pub record Summable (first second : Swing) : Type 0 where
   pub gained : first .gained + second .gained < 2 ^ 64
   pub lost : first .lost + second .lost < 2 ^ 64
+
+-- those of two changes can
+pub record Addable (first second : Change) : Type 0 where
+  pub border : Summable (first .border) (second .border)
+  pub dwell : Summable (first .dwell) (second .dwell)
 
 -- a gauge that can follow the change can do so whatever its constraint weighs
 pub gauge-unweighted : {gauge : ℕ} {k : Constraint} {c : Change} → GaugeShifting gauge k c → GaugeShifting gauge (unweighted (k .kind) (k .relation) (k .limit)) c
@@ -67,6 +78,6 @@ module _ {F : Figures} {gauges constraints : List ℕ} {c : Change} (t : Totalli
   pub weighted-room : (i : ℕ) → i < constraintCount constraints → weightedAfter F gauges constraints c i ≤ mostWeight * mostGauge
   weighted-room i h = rw (weighted-by gauges constraints (constraintCount constraints) c F i h) (weighted-bound (t .after) i h)
 
-  -- the total after the change is at most 2 * 10 ^ 17
-  pub total-room : totalAfter F gauges constraints (constraintCount constraints) c ≤ 200_000_000_000_000_000
+  -- the total after the change fits
+  pub total-room : totalAfter F gauges constraints (constraintCount constraints) c < 2 ^ 64
   total-room = rw (total-by-gauges gauges constraints (constraintCount constraints) c F) (total-bound (t .after))

@@ -4,13 +4,13 @@ ghost use Prim.Native.Nat.{_≤_, _<_};
 ghost use Rattle.meaning.specs.Plan.{mostSectors, mostLimit};
 ghost use Rattle.judge.specs.Figures.{constraintCount, unweighted};
 ghost use Rattle.judge.specs.Small.{mostLoad};
-ghost use Rattle.change.specs.Shift.{lessOne, offBalance, offLimit, shift, figuresAfter, gaugeAfter, gaugesAfter, weightedAfter, totalAfter, turnedRound, inTurn};
-ghost use Rattle.change.specs.Small.{AtMost, Fits, Shifting, GaugeShifting, GaugesShifting, Totalling, Addable};
+ghost use Rattle.change.specs.Shift.{lessOne, offBalance, offLimit, shift, swing, figuresAfter, gaugeAfter, gaugesAfter, weightedAfter, totalAfter, turnedRound, together, inTurn};
+ghost use Rattle.change.specs.Small.{AtMost, Fits, Swings, Shifting, GaugeShifting, GaugesShifting, Totalling, Summable, Addable};
 use judge::Figures;
-use judge::measures::relation_of;
 use judge::verdicts::violation;
 use terms::Relation;
 use terms::limits;
+use terms::relation_of;
 
 // Of the two sectors that a change concerns, the one that a region leaves and the one that it comes to, a number each.
 pub struct Pair {
@@ -24,12 +24,18 @@ pub struct Sides {
     pub workloads: Pair,
 }
 
-// What changes: the two sectors before and after, and the areas that the border gains and loses.
+// What a figure gains and loses.
+pub struct Swing {
+    pub gained: u64,
+    pub lost: u64,
+}
+
+// What changes: the two sectors before and after, the border, and what the constraints of kind 5 add to the total.
 pub struct Change {
     pub before: Sides,
     pub after: Sides,
-    pub gained: u64,
-    pub lost: u64,
+    pub border: Swing,
+    pub dwell: Swing,
 }
 
 // A sum of which two terms change.
@@ -38,6 +44,14 @@ fn shifted(sum: u64, before: Pair, after: Pair) -> u64
     ensures { λ r. ⌜ r ≡ shift sum before after ⌝ }
 {
     sum + (after.old + after.new) - (before.old + before.new)
+}
+
+// A figure that gains and loses.
+fn swung(figure: u64, by: Swing) -> u64
+    requires { ⌜ Swings figure by ⌝ }
+    ensures { λ r. ⌜ r ≡ swing figure by ⌝ }
+{
+    figure + by.gained - by.lost
 }
 
 // The components of each sector above its first.
@@ -83,7 +97,6 @@ pub fn figures_after(sectors: u64, whole: u64, figures: Figures, change: Change)
     let components_after = change.after.components;
     let workloads = change.before.workloads;
     let workloads_after = change.after.workloads;
-    let border = figures.border + change.gained - change.lost;
     Figures {
         components: shifted(figures.components, components, components_after),
         excess: shifted(
@@ -91,12 +104,13 @@ pub fn figures_after(sectors: u64, whole: u64, figures: Figures, change: Change)
             less_one(components),
             less_one(components_after),
         ),
-        border,
+        border: swung(figures.border, change.border),
         deviation: shifted(
             figures.deviation,
             off_balance(sectors, whole, workloads),
             off_balance(sectors, whole, workloads_after),
         ),
+        dwell: swung(figures.dwell, change.dwell),
     }
 }
 
@@ -168,7 +182,7 @@ pub fn total_after(constraints: &[u64], figures: Figures, gauges: &[u64], change
         total += weighted_after(constraints, figures, gauges, change, k);
         k += 1;
     }
-    total
+    total + figures.dwell
 }
 
 // The two sectors the other way round.
@@ -189,6 +203,17 @@ pub fn turned_round(sides: Sides) -> Sides
     }
 }
 
+// Two swings in one.
+fn both(first: Swing, second: Swing) -> Swing
+    requires { ⌜ Summable first second ⌝ }
+    ensures { λ r. ⌜ r ≡ together first second ⌝ }
+{
+    Swing {
+        gained: first.gained + second.gained,
+        lost: first.lost + second.lost,
+    }
+}
+
 // Two changes in one: the second, which has the two sectors the other way round, is made on what the first leaves.
 pub fn in_turn(first: Change, second: Change) -> Change
     requires { ⌜ Addable first second ⌝ }
@@ -196,12 +221,10 @@ pub fn in_turn(first: Change, second: Change) -> Change
 {
     let before = first.before;
     let after = turned_round(second.after);
-    let gained = first.gained + second.gained;
-    let lost = first.lost + second.lost;
     Change {
         before,
         after,
-        gained,
-        lost,
+        border: both(first.border, second.border),
+        dwell: both(first.dwell, second.dwell),
     }
 }

@@ -50,11 +50,13 @@ pub record SamePlan (i j : Input) : Type 0 where
   pub S : i .S ≡ j .S
   pub workloads : i .workloads ≡ j .workloads
   pub edges : i .edges ≡ j .edges
+  pub counts : i .counts ≡ j .counts
+  pub visits : i .visits ≡ j .visits
   pub constraints : i .constraints ≡ j .constraints
 
 -- their plans are equal
 pub same-plan : {i j : Input} → SamePlan i j → planIn i ≡ planIn j
-same-plan s = rw (s .R, s .S, s .workloads, s .edges, s .constraints)
+same-plan s = rw (s .R, s .S, s .workloads, s .edges, s .counts, s .visits, s .constraints)
 
 -- ---- lengths
 

@@ -1,6 +1,6 @@
--- When a call gives each code, and with which place: document 01's table, code by code.
+-- When a call gives each code, and with which place: document 01's table, with code 13 of document 02, code by code.
 -- Assumes nothing.
-use Prim.Native.Nat.{ℕ, _/_, _≤_}
+use Prim.Native.Nat.{ℕ, _*_, _/_, _≤_}
 use native.Mathlib.Omega.{arith}
 use native.Mathlib.Decide.{ℕ-discrete}
 use mathlib.Core.Path.{_≡_, refl, sym, ap, _∙_}
@@ -8,15 +8,15 @@ use mathlib.Core.Logic.{_≢_, _⊎_, _↔_}
 use borrow.Author.Tests.{eq-eqb, ne-eqb}
 use lib.Dec.{T}
 use lib.ListN.{length, getD}
-use Rattle.lists.specs.Sums.{In}
-use Rattle.meaning.specs.Plan.{edgeLength, constraintLength, mostWorkload}
-use Rattle.refusals.specs.Table.{refused, refusal, workloadRight, edgeRight, constraintRight, sectorRight, planTable, roomTable, callTable, callRefusal}
+use Rattle.lists.specs.Sums.{In, sum}
+use Rattle.meaning.specs.Plan.{edgeLength, visitLength, constraintLength, mostWorkload, mostFlights, mostVisits, mostKind}
+use Rattle.refusals.specs.Table.{refused, refusal, workloadRight, edgeRight, countRight, flightRight, constraintRight, sectorRight, planTable, roomTable, callTable, callRefusal}
 use Rattle.refusals.specs.Valid.{refusal-place}
 use Rattle.call.specs.Promise.{Input, Outcome, Promise, given, refusedBy, ran, outcome, is-outcome}
 use Rattle.demands.specs.Calls.{answer-code}
 use Rattle.demands.specs.Tables.{All, before, ruleOf, once, Among, inOrder, groupOf, code-among, none-given, code-given, given-by}
-use Rattle.demands.specs.Rules.{First, ListPlace, EdgeRules, ConstraintRules, RegionsFit, SectorsFit, WorkloadsFit, EdgeCountFits, EdgesFit, ConstraintCountFits, ConstraintsFit, ColouringFits, MovesFit, RowsFit, VerdictsFit, WorkFits, rules}
-use Rattle.demands.specs.RuleLaws.{at-most, equal, one-of, edge-rules, constraint-rules, no-place, each-place, list-place, callGroups, groups-all, groups-stand}
+use Rattle.demands.specs.Rules.{First, ListPlace, EdgeRules, FlightRules, ConstraintRules, RegionsFit, SectorsFit, WorkloadsFit, EdgeCountFits, EdgesFit, CountsFit, VisitsFit, ConstraintCountFits, ConstraintsFit, ColouringFits, MovesFit, RowsFit, VerdictsFit, WorkFits, rules}
+use Rattle.demands.specs.RuleLaws.{at-most, equal, one-of, edge-rules, flight-rules, constraint-rules, no-place, each-place, list-place, lists-place, callGroups, groups-all, groups-stand}
 
 -- a code is given exactly when the rules of the codes before it hold and its own does not, and then with a place that is so
 pub record Due (i : Input) (o : Outcome) (code : ℕ) (Rule : Type 0) (Place : ℕ → Type 0) : Type 0 where
@@ -84,15 +84,26 @@ module _ {i : Input} {o : Outcome} (p : Promise i o) where
   unfolding callTable planTable roomTable
   code-5 = due 5 (omega arith) tt (each-place 5 (length (i .edges) / edgeLength) (edgeRight (i .R) (i .edges)) (edge-rules (i .R) (i .edges)))
 
+  -- code 13: more than 64 flights, or else a wrong count, with its flight; or else a visit list not twice their sum long, or else a wrong visit, with its flight
+  pub code-13 : Due i o 13 (CountsFit (given i) × VisitsFit (given i))
+      (λ place. ListPlace (length (i .counts) ≤ mostFlights) (length (i .counts)) (λ k. In mostVisits (getD (i .counts) k 0)) place
+      ⊎ (CountsFit (given i) × ListPlace (length (i .visits) ≡ visitLength * sum (i .counts) (λ n. n)) (length (i .counts)) (FlightRules (i .R) (i .counts) (i .visits)) place))
+  unfolding callTable planTable roomTable
+  code-13 =
+      due 13 (omega arith) tt
+      (lists-place 13 (length (i .counts)) (countRight (i .counts)) (flightRight (i .R) (i .counts) (i .visits)) (λ k. one-of mostVisits _) (λ k. flight-rules (i .R) _) _ _
+      (at-most (length (i .counts)) mostFlights)
+      (equal (length (i .visits)) (visitLength * sum (i .counts) (λ n. n))))
+
   -- code 6, no place: constraint numbers not a multiple of four, or not 1..16 of them
   pub code-6 : Due i o 6 (ConstraintCountFits (given i)) (λ place. place ≡ 0)
   unfolding callTable planTable roomTable
   code-6 = due 6 (omega arith) tt (λ _. no-place _ refl)
 
-  -- code 7: a constraint with kind not 1..4, or a relation its kind doesn't take, or limit or weight outside, with its place
+  -- code 7: a constraint with kind not 1..5, or a relation its kind doesn't take, or limit or weight outside, with its place
   pub code-7 : Due i o 7 (ConstraintsFit (given i)) (First (length (i .constraints) / constraintLength) (ConstraintRules (i .constraints)))
   unfolding callTable planTable roomTable
-  code-7 = due 7 (omega arith) tt (each-place 7 (length (i .constraints) / constraintLength) (constraintRight (i .constraints)) (constraint-rules (i .constraints)))
+  code-7 = due 7 (omega arith) tt (each-place 7 (length (i .constraints) / constraintLength) (constraintRight mostKind (i .constraints)) (constraint-rules (i .constraints)))
 
   -- code 8: colouring not R long; else a sector outside 1..S, with its place
   pub code-8 : Due i o 8 (ColouringFits (given i)) (ListPlace (length (i .colouring) ≡ i .R) (length (i .colouring)) (λ k. In (i .S) (getD (i .colouring) k 0)))

@@ -12,14 +12,14 @@ use mathlib.Core.List.{List, [], _∷_}
 use borrow.Author.Tests.{leb-true, le-leb, ltb-true, lt-ltb, eqb-true, eq-eqb, ne-eqb, not-false}
 use lib.Dec.{eqb, leb, ltb, T}
 use lib.ListN.{length, take, drop}
-use Rattle.lists.specs.Sums.{In}
+use Rattle.lists.specs.Sums.{In, sum, Every}
 use Rattle.lists.specs.Tests.{or-cases}
 use Rattle.terms.specs.Plan.{within}
-use Rattle.meaning.specs.Plan.{edgeLength, constraintLength, edgeAt, constraintAt, mostRegions, mostSectors, mostEdges, mostArea, mostConstraints, mostLimit, mostWeight, mostMoves}
+use Rattle.meaning.specs.Plan.{Visit, VisitLimits, edgeLength, visitLength, constraintLength, edgeAt, constraintAt, mostRegions, mostSectors, mostEdges, mostArea, mostFlights, mostVisits, mostDwell, mostKind, mostConstraints, mostLimit, mostWeight, mostMoves}
 use Rattle.meaning.specs.Moves.{moveLength, rowLength, verdictLength}
-use Rattle.refusals.specs.Table.{Row, refused, none, whole, each, offFrom, firstOff, refusal, workloadRight, edgeRight, constraintRight, sectorRight, records, planTable, roomTable, Given, callTable}
-use Rattle.refusals.specs.Passed.{passed-each}
-use Rattle.demands.specs.Tables.{inOrder, Stand}
+use Rattle.refusals.specs.Table.{Row, refused, none, whole, each, offFrom, firstOff, refusal, workloadRight, edgeRight, countRight, visitsRight, flightRight, constraintRight, sectorRight, records, planTable, roomTable, Given, callTable}
+use Rattle.refusals.specs.Passed.{passed-each, each-passed}
+use Rattle.demands.specs.Tables.{inOrder, Stand, first-or-others}
 use Rattle.demands.specs.Rules.{Each, First, ListPlace, EdgeRules, ConstraintRules, rules}
 
 -- ---- tests and what they say
@@ -72,13 +72,23 @@ edge-rules R edges k =
       λ r. test .1 ((((r .limits .low, r .limits .rise), r .limits .high), r .limits .area), r .after),
     )
 
+-- the table's test of a flight is its rules
+pub flight-rules : (R : ℕ) (flight : List Visit) → visitsRight R flight ≡ true ↔ Every (VisitLimits R) flight
+unfolding visitsRight
+flight-rules R [] = (λ t. tt, λ e. refl)
+flight-rules R (v ∷ vs) =
+    let test = both (both (one-of R (v .region)) (one-of mostDwell (v .dwell))) (flight-rules R vs) in (
+      λ t. let p = test .0 t in (record { region = p .0 .0; dwell = p .0 .1 }, p .1),
+      λ e. test .1 ((e .0 .region, e .0 .dwell), e .1),
+    )
+
 -- the table's test of a constraint is its rules
-pub constraint-rules : (constraints : List ℕ) (k : ℕ) → constraintRight constraints k ≡ true ↔ ConstraintRules constraints k
+pub constraint-rules : (constraints : List ℕ) (k : ℕ) → constraintRight mostKind constraints k ≡ true ↔ ConstraintRules constraints k
 unfolding constraintRight
 constraint-rules constraints k =
     let c = constraintAt constraints k in
-    let takes = both (one-of 6 (c .relation)) (either (either (equal (c .kind) 1) (equal (c .kind) 4)) (equal (c .relation) 1)) in
-    let test = both (both (both (one-of 4 (c .kind)) takes) (at-most (c .limit) mostLimit)) (one-of mostWeight (c .weight)) in (
+    let takes = both (one-of 6 (c .relation)) (either (either (equal (c .kind) 1) (at-most 4 (c .kind))) (equal (c .relation) 1)) in
+    let test = both (both (both (one-of mostKind (c .kind)) takes) (at-most (c .limit) mostLimit)) (one-of mostWeight (c .weight)) in (
       λ t. let p = test .0 t in record { limits = record { kind = p .0 .0 .0; relation = p .0 .0 .1 .0; limit = p .0 .1; weight = p .1 }; takes = p .0 .0 .1 .1 },
       λ r. test .1 (((r .limits .kind, (r .limits .relation, r .takes)), r .limits .limit), r .limits .weight),
     )
@@ -90,12 +100,6 @@ whole-passes : (code : ℕ) {t : Bool} {A : Type 0} → t ≡ true ↔ A → who
 whole-passes code {t} f = (λ e. f .0 (not-false t e), λ a. rw (f .1 a))
 
 module _ (right : ℕ → Bool) where
-  -- where each of the items k, k + 1, .., n of them, is right, none is off
-  none-off : (k n : ℕ) → ((j : ℕ) → k ≤ j → j < k + n → right j ≡ true) → offFrom k n right ≡ 0
-  unfolding offFrom
-  none-off k zero h = refl
-  none-off k (suc n) h = rw (h k (omega arith) (omega arith)) (none-off (suc k) n (λ j lo hi. h j (omega arith) (omega arith)))
-
   -- place is that of the first of the items k, k + 1, .., n of them, that is off
   record Off (k n place : ℕ) : Type 0 where
     low : k < place
@@ -124,7 +128,7 @@ module _ (right : ℕ → Bool) where
     each-passes : each code n right .given ≡ false ↔ Each n A
     each-passes = (
       λ e k h. f k .0 (passes-true (right k) (passed-each right n e k h)),
-      λ a. rw (none-off 0 n (λ j lo hi. f j .1 (a j (omega arith)))),
+      λ a. each-passed right n (λ k h. rw (f k .1 (a k h)) tt),
     )
 
     -- the first item that is off is the first that is not right
@@ -136,6 +140,18 @@ module _ (right : ℕ → Bool) where
           off = λ a. true≢false (sym (f _ .1 a) ∙ r .off);
           before = λ k h. f k .0 (r .before k (omega arith) h);
         }
+
+-- a group of one row passes exactly when the row does
+alone : {A B : Type 0} → A ↔ B → (A × Unit {0}) ↔ B
+alone f = (λ p. f .0 (p .0), λ b. (f .1 b, tt))
+
+-- a group of two rows passes exactly when both do
+two : {A B C D : Type 0} → A ↔ B → C ↔ D → (A × (C × Unit {0})) ↔ B × D
+two f h = Iff·and f (alone h)
+
+-- so does a group of four, two and two
+four : {A B C D E F G H : Type 0} → A ↔ B → C ↔ D → E ↔ F → G ↔ H → (A × (C × (E × (G × Unit {0})))) ↔ (B × D) × (F × H)
+four a b c d = (λ p. ((a .0 (p .0), b .0 (p .1 .0)), (c .0 (p .1 .1 .0), d .0 (p .1 .1 .1 .0))), λ q. (a .1 (q .0 .0), (b .1 (q .0 .1), (c .1 (q .1 .0), (d .1 (q .1 .1), tt)))))
 
 -- ---- places
 
@@ -164,6 +180,20 @@ module _ (code n : ℕ) (right : ℕ → Bool) {A : ℕ → Type 0} (f : (k : �
   list-place true l some = inr (l .0 refl, each-place (λ a. some (l .0 refl, a)))
   list-place false l some = inl (λ a. true≢false (sym (l .1 a)), refl)
 
+-- two such lists of n items each, of which the second counts where the first is right
+pub lists-place : (code n : ℕ) (right right′ : ℕ → Bool) {A B : ℕ → Type 0} → ((k : ℕ) → right k ≡ true ↔ A k) → ((k : ℕ) → right′ k ≡ true ↔ B k)
+    → (t t′ : Bool) {Long Long′ : Type 0} → t ≡ true ↔ Long → t′ ≡ true ↔ Long′
+    → ((Long × Each n A) × (Long′ × Each n B) → ⊥)
+    → let place = refusal (whole code t ∷ each code n right ∷ whole code t′ ∷ each code n right′ ∷ []) .place in
+    ListPlace Long n A place ⊎ ((Long × Each n A) × ListPlace Long′ n B place)
+lists-place code n right right′ {A} {B} f h t t′ {Long} {Long′} l l′ some =
+    let first = whole code t ∷ each code n right ∷ [] in
+    let second = whole code t′ ∷ each code n right′ ∷ [] in
+    let passes = two (whole-passes code l) (each-passes right code n f) in
+    first-or-others first (second ∷ []) (λ r. ListPlace Long n A (r .place) ⊎ ((Long × Each n A) × ListPlace Long′ n B (r .place)))
+    (λ off. inl (list-place code n right f t l (λ a. off (passes .1 a))))
+    (λ p. let a = passes .0 p in inr (a, list-place code n right′ h t′ l′ (λ b. some (a, b))))
+
 -- ---- the table and the rules
 
 -- a table cut into groups of these lengths
@@ -171,18 +201,14 @@ abbrev groups : List ℕ → List Row → List (List Row)
 groups [] rs = []
 groups (n ∷ ns) rs = take n rs ∷ groups ns (drop n rs)
 
--- the call's table by its codes: of codes 3 and 8 there are two rows, one on the whole list and one on each item
+-- the call's table by its codes: of codes 3 and 8 there are two rows, one on the whole list and one on each item, and of code 13 two such pairs
 abbrev pub callGroups : Given → List (List Row)
-callGroups g = groups (1 ∷ 1 ∷ 2 ∷ 1 ∷ 1 ∷ 1 ∷ 1 ∷ 2 ∷ 1 ∷ 1 ∷ 1 ∷ 1 ∷ []) (callTable g)
+callGroups g = groups (1 ∷ 1 ∷ 2 ∷ 1 ∷ 1 ∷ 4 ∷ 1 ∷ 1 ∷ 2 ∷ 1 ∷ 1 ∷ 1 ∷ 1 ∷ []) (callTable g)
 
 -- the groups have all rows of the table, in its order
 pub groups-all : (g : Given) → inOrder (callGroups g) ≡ callTable g
 unfolding callTable planTable roomTable
 groups-all g = refl
-
--- a group of one row passes exactly when the row does
-alone : {A B : Type 0} → A ↔ B → (A × Unit {0}) ↔ B
-alone f = (λ p. f .0 (p .0), λ b. (f .1 b, tt))
 
 -- the group of the next code has that code and says what its rule says, and so do those after it
 infixr 2 _then_
@@ -195,12 +221,17 @@ unfolding callTable planTable roomTable
 groups-stand g =
     alone (whole-passes 1 (one-of mostRegions (g .R)))
     then alone (whole-passes 2 (one-of mostSectors (g .S)))
-    then Iff·and (whole-passes 3 (equal (length (g .workloads)) (g .R))) (alone (each-passes (workloadRight (g .workloads)) 3 (length (g .workloads)) (λ k. at-most _ _)))
+    then two (whole-passes 3 (equal (length (g .workloads)) (g .R))) (each-passes (workloadRight (g .workloads)) 3 (length (g .workloads)) (λ k. at-most _ _))
     then alone (whole-passes 4 (some-records edgeLength mostEdges (g .edges)))
     then alone (each-passes (edgeRight (g .R) (g .edges)) 5 (length (g .edges) / edgeLength) (edge-rules (g .R) (g .edges)))
+    then four
+    (whole-passes 13 (at-most (length (g .counts)) mostFlights))
+    (each-passes (countRight (g .counts)) 13 (length (g .counts)) (λ k. one-of mostVisits _))
+    (whole-passes 13 (equal (length (g .visits)) (visitLength * sum (g .counts) (λ n. n))))
+    (each-passes (flightRight (g .R) (g .counts) (g .visits)) 13 (length (g .counts)) (λ k. flight-rules (g .R) _))
     then alone (whole-passes 6 (both (equal (length (g .constraints) % constraintLength) 0) (one-of mostConstraints (length (g .constraints) / constraintLength))))
-    then alone (each-passes (constraintRight (g .constraints)) 7 (length (g .constraints) / constraintLength) (constraint-rules (g .constraints)))
-    then Iff·and (whole-passes 8 (equal (length (g .colouring)) (g .R))) (alone (each-passes (sectorRight (g .S) (g .colouring)) 8 (length (g .colouring)) (λ k. one-of (g .S) _)))
+    then alone (each-passes (constraintRight mostKind (g .constraints)) 7 (length (g .constraints) / constraintLength) (constraint-rules (g .constraints)))
+    then two (whole-passes 8 (equal (length (g .colouring)) (g .R))) (each-passes (sectorRight (g .S) (g .colouring)) 8 (length (g .colouring)) (λ k. one-of (g .S) _))
     then alone (whole-passes 9 (some-records moveLength mostMoves (g .moves)))
     then alone (whole-passes 10 (at-most (rowLength * (length (g .moves) / moveLength)) (g .rows)))
     then alone (whole-passes 11 (at-most (verdictLength * (length (g .constraints) / constraintLength)) (g .verdicts)))

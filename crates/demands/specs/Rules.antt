@@ -1,12 +1,12 @@
--- Document 01's table of codes, turned round: the rule that each code stands for, and the place that it names.
+-- Document 01's table of codes, with that of document 02, C-11, turned round: the rule that each code stands for, and the place that it names.
 -- Assumes nothing.
 use Prim.Native.Nat.{ℕ, _+_, _-_, _*_, _/_, _%_, _≤_, _<_}
 use mathlib.Core.Path.{_≡_}
 use mathlib.Core.Logic.{_⊎_}
 use mathlib.Core.List.{List, [], _∷_}
 use lib.ListN.{length, getD}
-use Rattle.lists.specs.Sums.{In}
-use Rattle.meaning.specs.Plan.{Edge, EdgeLimits, ConstraintLimits, edgeLength, constraintLength, edgeAt, constraintAt, mostRegions, mostSectors, mostWorkload, mostEdges, mostConstraints, mostMoves}
+use Rattle.lists.specs.Sums.{In, sum, Every}
+use Rattle.meaning.specs.Plan.{Edge, EdgeLimits, VisitLimits, ConstraintLimits, edgeLength, visitLength, constraintLength, edgeAt, flightsOf, constraintAt, mostRegions, mostSectors, mostWorkload, mostEdges, mostFlights, mostVisits, mostConstraints, mostMoves}
 use Rattle.meaning.specs.Moves.{moveLength, rowLength, verdictLength}
 use Rattle.refusals.specs.Table.{Given}
 use Rattle.demands.specs.Tables.{Rule}
@@ -20,10 +20,14 @@ pub record EdgeRules (R : ℕ) (edges : List ℕ) (k : ℕ) : Type 0 where
   pub limits : EdgeLimits R (edgeAt edges k)
   pub after : (k ≡ 0) ⊎ After (edgeAt edges (k - 1)) (edgeAt edges k)
 
--- constraint k, from 0, keeps to its limits, and its kind takes its relation: kinds 1 and 4 any, kinds 2 and 3 relation 1
+-- flight k, from 0, visits regions only, each of them for 1 to 86,400 seconds
+abbrev pub FlightRules : ℕ → List ℕ → List ℕ → ℕ → Type 0
+FlightRules R counts visits k = Every (VisitLimits R) (getD (flightsOf counts visits) k [])
+
+-- constraint k, from 0, keeps to its limits, and its kind takes its relation: kinds 1, 4 and 5 any, kinds 2 and 3 relation 1
 pub record ConstraintRules (constraints : List ℕ) (k : ℕ) : Type 0 where
   pub limits : ConstraintLimits (constraintAt constraints k)
-  pub takes : ((constraintAt constraints k .kind ≡ 1) ⊎ (constraintAt constraints k .kind ≡ 4)) ⊎ (constraintAt constraints k .relation ≡ 1)
+  pub takes : ((constraintAt constraints k .kind ≡ 1) ⊎ (4 ≤ constraintAt constraints k .kind)) ⊎ (constraintAt constraints k .relation ≡ 1)
 
 -- each of n items, from 0, is right
 abbrev pub Each : ℕ → (ℕ → Type 0) → Type 0
@@ -59,11 +63,19 @@ EdgeCountFits g = (length (g .edges) % edgeLength ≡ 0) × (length (g .edges) /
 abbrev pub EdgesFit : Given → Type 0
 EdgesFit g = Each (length (g .edges) / edgeLength) (EdgeRules (g .R) (g .edges))
 
+-- code 13: there are not over 64 flights, and each count is one of 1..32;
+abbrev pub CountsFit : Given → Type 0
+CountsFit g = (length (g .counts) ≤ mostFlights) × Each (length (g .counts)) (λ k. In mostVisits (getD (g .counts) k 0))
+
+-- the visit list is twice their sum long, and each flight keeps to its rules
+abbrev pub VisitsFit : Given → Type 0
+VisitsFit g = (length (g .visits) ≡ visitLength * sum (g .counts) (λ n. n)) × Each (length (g .counts)) (FlightRules (g .R) (g .counts) (g .visits))
+
 -- code 6: the constraint numbers are a multiple of four, and there are 1..16 constraints
 abbrev pub ConstraintCountFits : Given → Type 0
 ConstraintCountFits g = (length (g .constraints) % constraintLength ≡ 0) × In mostConstraints (length (g .constraints) / constraintLength)
 
--- code 7: each constraint has a kind of 1..4, a relation that its kind takes, and limit and weight within theirs
+-- code 7: each constraint has a kind of 1..5, a relation that its kind takes, and limit and weight within theirs
 abbrev pub ConstraintsFit : Given → Type 0
 ConstraintsFit g = Each (length (g .constraints) / constraintLength) (ConstraintRules (g .constraints))
 
@@ -100,6 +112,7 @@ rules g =
     ∷ (3 asks WorkloadsFit g)
     ∷ (4 asks EdgeCountFits g)
     ∷ (5 asks EdgesFit g)
+    ∷ (13 asks (CountsFit g × VisitsFit g))
     ∷ (6 asks ConstraintCountFits g)
     ∷ (7 asks ConstraintsFit g)
     ∷ (8 asks ColouringFits g)

@@ -112,7 +112,7 @@ caught-code c (r ∷ rs) t n = go (r .given) refl (caught-code c rs (both (eqb (
 -- ---- all groups
 
 -- of the first group and those after it: what they refuse is what the first refuses, or it passes and it is what the others refuse
-first-or-others : (g : List Row) (gs : List (List Row)) (Q : Refusal → Type 0) → ((Passed g → ⊥) → Q (refusal g)) → (Passed g → Q (refusal (inOrder gs))) → Q (refusal (inOrder (g ∷ gs)))
+pub first-or-others : (g : List Row) (gs : List (List Row)) (Q : Refusal → Type 0) → ((Passed g → ⊥) → Q (refusal g)) → (Passed g → Q (refusal (inOrder gs))) → Q (refusal (inOrder (g ∷ gs)))
 first-or-others g gs Q f h = go (passed-dec g)
   where
     go : Dec (Passed g) → Q (refusal (g ++ inOrder gs))

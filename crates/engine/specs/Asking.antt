@@ -3,13 +3,14 @@
 use Prim.Native.Nat.{ℕ, _+_, _-_, _*_, _≤_, _<_, _^_}
 use native.Mathlib.Nat.{mul-le-mul}
 use native.Mathlib.Omega.{arith}
-use mathlib.Core.Path.{_≡_, sym, ap, _∙_}
+use mathlib.Core.Path.{_≡_, refl, sym, ap, _∙_}
 use mathlib.Core.List.{List}
-use mathlib.Core.Bool.{not}
+use mathlib.Core.Bool.{Bool, true, false, cond, not}
+use borrow.Author.Tests.{eqb-true}
 use lib.Dec.{eqb}
 use lib.ListN.{length, getD}
 use Rattle.lists.specs.Sums.{In, at, from, sum, Every}
-use Rattle.lists.specs.SumLaws.{few-bound, every-from, length-from, sum-map}
+use Rattle.lists.specs.SumLaws.{few-bound, every-from, length-from, sum-all, sum-map}
 use Rattle.lists.specs.ListLaws.{length-listOf}
 use Rattle.lists.specs.Tests.{cond-le}
 use Rattle.terms.specs.Distance.{gap, distance}
@@ -17,6 +18,8 @@ use Rattle.terms.specs.DistanceLaws.{distance-bound}
 use Rattle.meaning.specs.Plan.{Constraint, Plan, ConstraintLimits, constraintAt, constraintsOf, mostRegions, mostEdges, mostArea, mostConstraints, mostLimit, mostWeight}
 use Rattle.meaning.specs.Kinds.{ncc, load, whole, areaOf, leadsTo, byKind, offBalance, borderOf, partOf, regionViolation}
 use Rattle.meaning.specs.Bounds.{ncc-bound, load-bound, whole-bound}
+use Rattle.meaning.specs.Prices.{timed, visitorsPrice}
+use Rattle.meaning.specs.PriceLaws.{region-parts, cost-bound}
 use Rattle.neighbours.specs.Table.{Table}
 use Rattle.search.specs.Weighing.{Weighable}
 use Rattle.judge.specs.Figures.{constraintCount, unweighted}
@@ -31,9 +34,9 @@ pub record SmallOwn (o : Own) : Type 0 where
   pub balance : o .balance ≤ mostGap
   pub workload : o .workload ≤ mostLoad
 
--- what it has by the kind of a constraint
+-- what it has by the kind of a constraint, but for kind 5
 unfoldable pub partBy : Own → Constraint → ℕ
-partBy o k = byKind (k .kind) (o .excess) (o .border) (o .balance) (distance (k .relation) (o .workload) (k .limit))
+partBy o k = byKind (k .kind) (o .excess) (o .border) (o .balance) (distance (k .relation) (o .workload) (k .limit)) 0
 
 -- the weight of constraint i, from 0, of the flat list, times that
 abbrev pub partAt : Own → List ℕ → ℕ → ℕ
@@ -63,7 +66,8 @@ part-bound {o} s k h =
     cond-le (eqb (k .kind) 1) (omega (arith, s .excess))
     (cond-le (eqb (k .kind) 2) (omega (arith, s .border))
     (cond-le (eqb (k .kind) 3) (omega (arith, s .balance))
-    (cond-le (eqb (k .kind) 4) (omega (arith, s .workload, distance-bound (k .relation) (o .workload) (k .limit))) (omega arith))))
+    (cond-le (eqb (k .kind) 4) (omega (arith, s .workload, distance-bound (k .relation) (o .workload) (k .limit)))
+    (cond-le (eqb (k .kind) 5) (omega arith) (omega arith)))))
 
 module _ {o : Own} {constraints : List ℕ} (w : Weighing o constraints) where
   -- weighted it is at most 1000 times as much
@@ -77,8 +81,8 @@ module _ {o : Own} {constraints : List ℕ} (w : Weighing o constraints) where
   unfolding partBy
   weighted-part-fits i h e = rw e (omega (arith, weighted-part-bound i h))
 
-  -- and so does the sum
-  pub parts-bound : partsBy o constraints < 2 ^ 64
+  -- and the sum is small
+  pub parts-bound : partsBy o constraints ≤ mostConstraints * (mostWeight * mostDistance)
   unfolding partsBy
   parts-bound =
       omega (
@@ -97,6 +101,22 @@ ownOf P col v =
       balance = offBalance P (load P col (at col v));
       workload = load P col (at col v);
     }
+
+-- what it has by a constraint, but for kind 5
+abbrev keptPart : Plan → List ℕ → ℕ → Constraint → ℕ
+keptPart P col v k = cond (eqb (k .kind) 5) 0 (partOf P col v (at col v) k)
+
+own-part : (P : Plan) (col : List ℕ) (v : ℕ) (k : Constraint) → partBy (ownOf P col v) k ≡ keptPart P col v k
+unfolding partBy partOf byKind
+own-part P col v k = go (eqb (k .kind) 5) refl
+  where
+    go : (t : Bool) → eqb (k .kind) 5 ≡ t → partBy (ownOf P col v) k ≡ cond t 0 (partOf P col v (at col v) k)
+    go true e = rw (eqb-true (k .kind) 5 e)
+    go false e = rw e
+
+-- what the stretches cost that visit it
+abbrev pub stretchesCost : Plan → List ℕ → ℕ → ℕ
+stretchesCost P col v = visitorsPrice (timed (P .constraints)) col false v (P .flights)
 
 module _ {P : Plan} {W : ℕ} {start near areas col w : List ℕ} {v : ℕ} (a : Asking P W start near areas col w v) where
   -- the region's sector
@@ -151,11 +171,17 @@ module _ {P : Plan} {W : ℕ} {start near areas col w : List ℕ} {v : ℕ} (a :
             constraint = rw c at (a .kept .limits .constraint);
           })
 
-      -- and makes the region's violation
-      pub asking-violation : {r : ℕ} → r ≡ partsBy (record { excess = n; border = b; balance = g; workload = getD w (countAt (P .R) (at col v) + P .S) 0 }) constraints → r ≡ regionViolation P col v
-      unfolding partsBy regionViolation constraintsOf partBy partOf
-      asking-violation p =
-          p
-          ∙ ap (λ (o : Own). sum (from 0 (constraintCount constraints)) (partAt o constraints)) asking-own
-          ∙ sym (sum-map (constraintAt constraints) (from 0 (constraintCount constraints)) (λ k. k .weight * partOf P col v (at col v) k))
-          ∙ ap (λ ks. sum ks (λ k. k .weight * partOf P col v (at col v) k)) (sym c)
+      -- both fit
+      pub asking-sum : {r d : ℕ} → r ≡ partsBy (record { excess = n; border = b; balance = g; workload = getD w (countAt (P .R) (at col v) + P .S) 0 }) constraints → d ≡ stretchesCost P col v → r + d < 2 ^ 64
+      asking-sum p q = omega (arith, p, q, parts-bound asking-weighing, cost-bound (a .kept .limits) col false v)
+
+      -- and, with what the stretches cost that visit it, makes the region's violation
+      pub asking-violation : {r d : ℕ} → r ≡ partsBy (record { excess = n; border = b; balance = g; workload = getD w (countAt (P .R) (at col v) + P .S) 0 }) constraints → d ≡ stretchesCost P col v → r + d ≡ regionViolation P col v
+      unfolding partsBy constraintsOf
+      asking-violation p q =
+          rw (p, q, asking-own)
+          (ap (λ t. t + stretchesCost P col v)
+          (sum-all (from 0 (constraintCount constraints)) _ _ (λ i. ap (λ t. constraintAt constraints i .weight * t) (own-part P col v (constraintAt constraints i)))
+          ∙ sym (sum-map (constraintAt constraints) (from 0 (constraintCount constraints)) (λ k. k .weight * keptPart P col v k))
+          ∙ ap (λ ks. sum ks (λ k. k .weight * keptPart P col v k)) (sym c))
+          ∙ sym (region-parts P col v))

@@ -1,4 +1,5 @@
 pub mod State
+pub mod Flown
 pub mod Memory
 pub mod Turning
 pub mod Swapping

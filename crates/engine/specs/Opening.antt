@@ -13,6 +13,7 @@ use Rattle.lists.specs.Few.{Few}
 use Rattle.meaning.specs.Plan.{Plan, Limits, Coloured, ConstraintLimits, constraintAt, constraintsOf, mostSectors}
 use Rattle.meaning.specs.Joined.{labels, leads}
 use Rattle.meaning.specs.Kinds.{whole, crosses, areaOf, border, counts, loads, total}
+use Rattle.meaning.specs.Prices.{dwellTotal}
 use Rattle.neighbours.specs.Net.{Net, table-net}
 use Rattle.judge.specs.declared.Figures.{Figures}
 use Rattle.judge.specs.Figures.{figuresOf, figuresBy, gauges, gaugesBy, constraintCount, totalBy, tally}
@@ -188,10 +189,10 @@ module _ {P : Plan} {W : ℕ} {start near areas col w gs q : List ℕ} (s : Sett
       opening-gauging =
           (rw loads-read (loads-small P (s .limits) col), (rw c at (s .limits .constraint), o .gauges ∙ ap length c ∙ length-listOf (constraintCount constraints) (constraintAt constraints)))
 
-      module _ {col′ : List ℕ} (k : col′ ≡ col) {t : ℕ} (e : t ≡ areaOf (P .edges) (crosses col′)) {F : Figures} (f : F ≡ figuresBy (P .S) W (firstPart (P .R) (P .S) w′) (secondPart (P .R) (P .S) w′) t) {gs′ : List ℕ} (g : gs′ ≡ gaugesBy (secondPart (P .R) (P .S) w′) constraints) where
+      module _ {col′ : List ℕ} (k : col′ ≡ col) {t d : ℕ} (e : t ≡ areaOf (P .edges) (crosses col′)) (h : d ≡ dwellTotal P col′) {F : Figures} (f : F ≡ figuresBy (P .S) W (firstPart (P .R) (P .S) w′) (secondPart (P .R) (P .S) w′) t d) {gs′ : List ℕ} (g : gs′ ≡ gaugesBy (secondPart (P .R) (P .S) w′) constraints) where
         -- the figures are those of the colouring
         opening-figures : F ≡ figuresOf P col
-        opening-figures = f ∙ rw (counts-read, loads-read, s .whole, opening-border k e) (figures-by P col (o .coloured))
+        opening-figures = f ∙ rw (counts-read, loads-read, s .whole, opening-border k e, h, k) (figures-by P col (o .coloured))
 
         -- and so are the gauges
         opening-gauges : gs′ ≡ gauges P col

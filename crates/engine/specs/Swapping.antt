@@ -1,7 +1,6 @@
 -- Two regions of different sectors are given each other's sector: two recolourings in turn, whose changes make one.
 -- Assumes nothing.
-use Prim.Native.Nat.{ℕ, _*_, _≤_}
-use native.Mathlib.Omega.{arith}
+use Prim.Native.Nat.{ℕ}
 use mathlib.Core.Path.{_≡_, sym, ap, _∙_}
 use mathlib.Core.List.{List, _++_}
 use mathlib.Core.Logic.{_≢_}
@@ -9,7 +8,7 @@ use lib.ListN.{length, take}
 use lib.Seq.{set-set, take-at}
 use Rattle.lists.specs.Sums.{In, at}
 use Rattle.lists.specs.Places.{at-set-other}
-use Rattle.meaning.specs.Plan.{Plan, Coloured, mostEdges, mostArea}
+use Rattle.meaning.specs.Plan.{Plan, Coloured}
 use Rattle.meaning.specs.Joined.{labels}
 use Rattle.meaning.specs.Moves.{recolour, swap, differing, relabelled}
 use Rattle.meaning.specs.MoveLaws.{recolour-own}
@@ -18,7 +17,7 @@ use Rattle.change.specs.declared.Sides.{Sides}
 use Rattle.change.specs.declared.Change.{Change}
 use Rattle.change.specs.Shift.{turnedRound, inTurn}
 use Rattle.change.specs.Small.{Addable}
-use Rattle.change.specs.Changed.{sidesOf, Changed, changed-addable, changed-in-turn}
+use Rattle.change.specs.Changed.{sidesOf, Changed, Single, changed-addable, changed-in-turn}
 use Rattle.engine.specs.declared.turn.Turned.{Turned}
 use Rattle.engine.specs.Memory.{labels-length}
 use Rattle.engine.specs.Turning.{Ground, Turning, Turns, Followed, followed-turns}
@@ -72,13 +71,13 @@ module _ {P : Plan} {start near areas col q : List ℕ} {a b : ℕ} (k : Swappin
       second : Changed P (recolour col a (at col b)) (swap col a b) (at col b) (at col a) twice
       second = rw still at (rw e at (s .changed))
 
-      -- the areas of both can be added up
+      -- what both gain and lose can be added up
       pub swapping-addable : Addable once twice
-      swapping-addable = changed-addable (f .changed) second (k .ground .limits)
+      swapping-addable = changed-addable (f .changed) second (f .single) (s .single) (k .ground .limits)
 
       -- both make one change
       pub swapping-changed : Changed P col (swap col a b) (at col a) (at col b) (inTurn once twice)
-      swapping-changed = changed-in-turn (f .changed) second (omega (arith, f .gained, s .gained))
+      swapping-changed = changed-in-turn (f .changed) second (f .single) (s .single)
 
   module _ {ls : List ℕ} (labelled : ls ≡ labels (P .edges) col) where
     -- there is a label for each region
@@ -92,7 +91,7 @@ module _ {P : Plan} {start near areas col q : List ℕ} {a b : ℕ} (k : Swappin
 
       -- both make one change, and the labels before and after both are compared
       pub swapping-followed : {col₂ ls₂ old : List ℕ} (r : List ℕ) {twice both : Turned} {n : ℕ} → Followed P mid (recolour mid b (at col a)) (at mid b) (at col a) col₂ ls₂ twice
-          → once .change .gained ≤ mostEdges * mostArea → twice .change .gained ≤ mostEdges * mostArea
+          → Single (once .change) → Single (twice .change)
           → old ≡ ls ++ r → n ≡ differing (length (take (P .R) old)) (take (P .R) old) ls₂
           → (both .change ≡ inTurn (once .change) (twice .change)) × (both .relabelled ≡ n)
           → Followed P col (swap col a b) (at col a) (at col b) col₂ ls₂ both

@@ -1,30 +1,35 @@
 -- What giving a region to another sector changes: the numbers of two sectors, by those before and by a look at the region.
 -- Assumes nothing.
-use Prim.Native.Nat.{ℕ, _+_, _-_, _*_, _≤_, _<_, _^_}
+use Prim.Native.Nat.{ℕ, _+_, _-_, _≤_, _<_, _^_}
 use native.Mathlib.Omega.{arith}
 use mathlib.Core.Path.{_≡_, refl, sym, _∙_}
 use mathlib.Core.List.{List}
 use mathlib.Core.Logic.{_≢_}
+use mathlib.Core.Bool.{true}
 use lib.ListN.{length}
 use Rattle.lists.specs.Sums.{In, at}
-use Rattle.meaning.specs.Plan.{Plan, Limits, Coloured, mostEdges, mostArea}
+use Rattle.meaning.specs.Plan.{Plan, Limits, Coloured, flightsOf, constraintsOf}
 use Rattle.meaning.specs.Joined.{labels}
 use Rattle.meaning.specs.Kinds.{ncc, load}
 use Rattle.meaning.specs.Moves.{recolour, differing, relabelled}
 use Rattle.meaning.specs.Faces.{lift}
 use Rattle.meaning.specs.Bounds.{ncc-bound, load-bound}
+use Rattle.meaning.specs.PriceLaws.{cost-bound}
 use Rattle.meaning.specs.Recoloured.{load-come, load-go, ncc-come, ncc-go}
 use Rattle.neighbours.specs.Table.{Table}
 use Rattle.neighbours.specs.Net.{table-net}
 use Rattle.search.specs.declared.Look.{Look}
 use Rattle.search.specs.Looking.{Looking, Looked}
+use Rattle.visitors.specs.Visitors.{Pricing}
 use Rattle.change.specs.declared.Sides.{Sides}
+use Rattle.change.specs.declared.Swing.{Swing}
 use Rattle.change.specs.declared.Change.{Change}
-use Rattle.change.specs.Changed.{sidesOf, Changed, faces-bound, changed-recolour}
+use Rattle.change.specs.Changed.{sidesOf, Changed, Single, faces-bound, costAt, changed-recolour}
 use Rattle.relabel.specs.Recolouring.{Recolourable}
 use Rattle.engine.specs.declared.Standing.{Standing}
 use Rattle.engine.specs.declared.turn.Turned.{Turned}
 use Rattle.engine.specs.State.{Setting, Ready}
+use Rattle.engine.specs.Flown.{Flown, swingBy, priced-swing, flown-pricing}
 use Rattle.engine.specs.Memory.{Placed, sidesIn, Kept, kept-sides}
 
 -- the numbers that change do not fall below 0 and do not get too large
@@ -36,17 +41,17 @@ pub record Movable (before : Sides) (workload : ℕ) (look : Look) : Type 0 wher
   pub leaves : workload ≤ before .workloads .old
   pub comes : before .workloads .new + workload < 2 ^ 64
 
--- the change, by what the two sectors have before, the region's workload, and a look at the region
-abbrev pub changeOf : Sides → ℕ → Look → Change
-changeOf before workload look =
+-- the change, by what the two sectors have before, the region's workload, a look at the region, and what the flights that visit it cost
+abbrev pub changeOf : Sides → ℕ → Look → Swing → Change
+changeOf before workload look dwell =
     record {
       before = before;
       after = record {
         components = record { old = before .components .old + look .pieces - 1; new = before .components .new + 1 - look .met .touching };
         workloads = record { old = before .workloads .old - workload; new = before .workloads .new + workload };
       };
-      gained = look .met .here;
-      lost = look .met .there;
+      border = record { gained = look .met .here; lost = look .met .there };
+      dwell = dwell;
     }
 
 -- what regions are recoloured on: a plan within its limits, a colouring, the table of the neighbours and areas, and room in the queue
@@ -63,10 +68,10 @@ pub record Turning (P : Plan) (start near areas col q : List ℕ) (v d : ℕ) : 
   pub sector : In (P .S) d
   pub other : d ≢ at col v
 
--- the change is that of giving region v to sector d, and the border gains no more than the area of all edges
+-- the change is that of giving region v to sector d
 pub record Turns (P : Plan) (col : List ℕ) (v d : ℕ) (c : Change) : Type 0 where
   pub changed : Changed P col (recolour col v d) (at col v) d c
-  pub gained : c .gained ≤ mostEdges * mostArea
+  pub single : Single c
 
 -- the colouring and the labels are those after a change, of which it is known how many labels are new
 pub record Followed (P : Plan) (col after : List ℕ) (own d : ℕ) (col′ ls′ : List ℕ) (t : Turned) : Type 0 where
@@ -80,8 +85,8 @@ pub ready-ground : {P : Plan} {W : ℕ} {start near areas q col w gs : List ℕ}
 ready-ground k r = record { limits = k .limits; coloured = r .coloured; table = k .table; queue = k .queue }
 
 -- where a region is given to another sector, that is the change
-pub followed-turns : {P : Plan} {col : List ℕ} {v d : ℕ} {col′ ls′ : List ℕ} {t : Turned} → Followed P col (recolour col v d) (at col v) d col′ ls′ t → t .change .gained ≤ mostEdges * mostArea → Turns P col v d (t .change)
-followed-turns f g = record { changed = f .changed; gained = g }
+pub followed-turns : {P : Plan} {col : List ℕ} {v d : ℕ} {col′ ls′ : List ℕ} {t : Turned} → Followed P col (recolour col v d) (at col v) d col′ ls′ t → Single (t .change) → Turns P col v d (t .change)
+followed-turns f s = record { changed = f .changed; single = s }
 
 module _ {P : Plan} {start near areas col q : List ℕ} {v d : ℕ} (t : Turning P start near areas col q v d) where
   -- the plan's limits
@@ -140,6 +145,15 @@ module _ {P : Plan} {start near areas col q : List ℕ} {v d : ℕ} (t : Turning
           other = t .other;
         })
 
+  module _ {timed counts visits visited flights firsts : List ℕ} (f : Flown P timed counts visits visited flights firsts) {col′ : List ℕ} (same : col′ ≡ col) where
+    -- the flights that visit v can be priced
+    pub turning-pricing : Pricing (length col′) timed counts visits visited flights firsts × In (length col′) v
+    turning-pricing = rw same (flown-pricing coloured f, rw (coloured .size) (t .region))
+
+    -- and what they cost before and after is that of the plan
+    pub turning-swing : {s : Swing} → s ≡ swingBy (constraintsOf timed) (flightsOf counts visits) col′ v d → s ≡ record { gained = costAt P (recolour col v d) v; lost = costAt P col v }
+    turning-swing e = priced-swing (f .priced) col v d (rw same at e)
+
   module _ {before : Sides} (b : before ≡ sidesOf P col (at col v) d) {look : Look} (k : Looked (P .edges) col v d look) where
     -- the components of the old sector
     go : ncc P (recolour col v d) (at col v) + 1 ≡ ncc P col (at col v) + look .pieces
@@ -163,12 +177,12 @@ module _ {P : Plan} {start near areas col q : List ℕ} {v d : ℕ} (t : Turning
         })
 
     -- and then they are those of the new colouring
-    pub turning-turns : {c : Change} → c ≡ changeOf before (at (P .workloads) v) look → Turns P col v d c
-    turning-turns e =
+    pub turning-turns : {c : Change} {dwell : Swing} → dwell ≡ record { gained = costAt P (recolour col v d) v; lost = costAt P col v } → c ≡ changeOf before (at (P .workloads) v) look dwell → Turns P col v d c
+    turning-turns f e =
         rw (e, b)
         (record {
-          changed = changed-recolour limits coloured (t .region) (t .sector) (t .other) refl (rw (old, new, leaves, comes)) (k .met .here) (k .met .there);
-          gained = rw (k .met .here) (faces-bound limits (lift col v) v (at col v));
+          changed = changed-recolour limits coloured (t .region) (t .sector) (t .other) refl (rw (old, new, leaves, comes)) (rw (k .met .here, k .met .there)) f;
+          single = record { border = rw (k .met .here) (faces-bound limits (lift col v) v (at col v)); dwell = rw f (cost-bound limits (recolour col v d) true v) };
         })
       where
         old : ncc P col (at col v) + look .pieces - 1 ≡ ncc P (recolour col v d) (at col v)

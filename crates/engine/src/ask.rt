@@ -6,8 +6,10 @@ ghost use Rattle.meaning.specs.Plan.{Plan, planOf, ConstraintLimits};
 ghost use Rattle.meaning.specs.Kinds.{regionViolation};
 ghost use Rattle.judge.specs.Figures.{constraintCount, unweighted};
 ghost use Rattle.engine.specs.Asking.{SmallOwn, partBy, partAt, partsBy, Weighing, Asking};
-use judge::measures::relation_of;
+ghost use Rattle.engine.specs.Flown.{Flown};
 use terms::limits;
+use terms::relation_of;
+use visitors::price_visitors;
 
 // What a region has by the kinds of constraints: the components of its sector above the first, its own border, how far the workload of its
 // sector is from the average, times the number of sectors, and that workload.
@@ -18,7 +20,7 @@ pub struct Own {
     pub workload: u64,
 }
 
-// What the region has by the kind of a constraint.
+// What the region has by the kind of a constraint, but for kind 5.
 fn part_of(own: Own, kind: u64, relation: u64, limit: u64) -> u64
     requires { ⌜ SmallOwn own ⌝ }
     requires { ⌜ ConstraintLimits (unweighted kind relation limit) ⌝ }
@@ -33,7 +35,10 @@ fn part_of(own: Own, kind: u64, relation: u64, limit: u64) -> u64
     if kind == limits::BALANCED {
         return own.balance;
     }
-    relation_of(relation).distance(own.workload, limit)
+    if kind == limits::BOUNDED {
+        return relation_of(relation).distance(own.workload, limit);
+    }
+    0
 }
 
 // The weight of constraint k, from 0, times what the region has by its kind.
@@ -67,23 +72,30 @@ fn weigh(constraints: &[u64], own: Own) -> u64
     sum
 }
 
-// The region's violation.
+// The region's violation: what it has by each constraint but those of kind 5, and what the stretches that visit it cost.
 pub fn region_violation(
     sectors: u64,
     whole: u64,
     workloads: &[u64],
     edges: &[u64],
+    counts: &[u64],
+    visits: &[u64],
     constraints: &[u64],
     start: &[u64],
     near: &[u64],
     areas: &[u64],
+    timed: &[u64],
+    visited: &[u64],
+    flights: &[u64],
+    firsts: &[u64],
     colouring: &[u64],
     work: &[u64],
     region: u64,
 ) -> u64
     ghost { Plan }
-    requires { λ P. ⌜ planOf (length (now workloads)) sectors (now workloads) (now edges) (now constraints) ≡ P ⌝ }
+    requires { λ P. ⌜ planOf (length (now workloads)) sectors (now workloads) (now edges) (now counts) (now visits) (now constraints) ≡ P ⌝ }
     requires { λ P. ⌜ Asking P whole (now start) (now near) (now areas) (now colouring) (now work) region ⌝ }
+    requires { λ P. ⌜ Flown P (now timed) (now counts) (now visits) (now visited) (now flights) (now firsts) ⌝ }
     ensures { λ P r. ⌜ r ≡ regionViolation P (now (colouring .entry)) region ⌝ }
 {
     let v = region as usize;
@@ -96,5 +108,16 @@ pub fn region_violation(
         balance: terms::apart(sectors * workload, whole),
         workload,
     };
-    weigh(constraints, had)
+    let dwell = price_visitors(
+        timed,
+        counts,
+        visits,
+        visited,
+        flights,
+        firsts,
+        colouring,
+        false,
+        region,
+    );
+    weigh(constraints, had) + dwell
 }

@@ -14,6 +14,7 @@ ghost use Rattle.engine.specs.Turning.{Followed};
 ghost use Rattle.engine.specs.Remade.{Remade};
 ghost use Rattle.engine.specs.Swapping.{Swapping};
 ghost use Rattle.engine.specs.Exchanging.{Exchanging};
+ghost use Rattle.engine.specs.Flown.{Flown};
 use crate::Made;
 use crate::Standing;
 use crate::memory::differing;
@@ -37,10 +38,16 @@ fn change_both(
     sectors: u64,
     workloads: &[u64],
     edges: &[u64],
+    counts: &[u64],
+    visits: &[u64],
     constraints: &[u64],
     start: &[u64],
     near: &[u64],
     areas: &[u64],
+    timed: &[u64],
+    visited: &[u64],
+    flights: &[u64],
+    firsts: &[u64],
     colouring: &mut [u64],
     work: &[u64],
     queue: &mut [u64],
@@ -48,9 +55,10 @@ fn change_both(
     second: u64,
 ) -> Change
     ghost { Plan }
-    requires { λ P. ⌜ planOf (length (now workloads)) sectors (now workloads) (now edges) (now constraints) ≡ P ⌝ }
+    requires { λ P. ⌜ planOf (length (now workloads)) sectors (now workloads) (now edges) (now counts) (now visits) (now constraints) ≡ P ⌝ }
     requires { λ P. ⌜ Swapping P (now start) (now near) (now areas) (now colouring) (now queue) first second ⌝ }
     requires { λ P. ⌜ Kept P (now colouring) (now work) ⌝ }
+    requires { λ P. ⌜ Flown P (now timed) (now counts) (now visits) (now visited) (now flights) (now firsts) ⌝ }
     ensures { λ P r. ⌜ Changed P (now (colouring .entry)) (swap (now (colouring .entry)) first second) (at (now (colouring .entry)) first) (at (now (colouring .entry)) second) r ⌝ }
     ensures { λ P r. ⌜ now (colouring .exit) ≡ now (colouring .entry) ⌝ }
 {
@@ -61,10 +69,16 @@ fn change_both(
         sectors,
         workloads,
         edges,
+        counts,
+        visits,
         constraints,
         start,
         near,
         areas,
+        timed,
+        visited,
+        flights,
+        firsts,
         colouring,
         work,
         queue,
@@ -76,10 +90,16 @@ fn change_both(
         sectors,
         workloads,
         edges,
+        counts,
+        visits,
         constraints,
         start,
         near,
         areas,
+        timed,
+        visited,
+        flights,
+        firsts,
         colouring,
         queue,
         turned_round(once.after),
@@ -96,10 +116,16 @@ pub fn probe(
     whole: u64,
     workloads: &[u64],
     edges: &[u64],
+    counts: &[u64],
+    visits: &[u64],
     constraints: &[u64],
     start: &[u64],
     near: &[u64],
     areas: &[u64],
+    timed: &[u64],
+    visited: &[u64],
+    flights: &[u64],
+    firsts: &[u64],
     colouring: &mut [u64],
     work: &[u64],
     gauges: &[u64],
@@ -109,8 +135,9 @@ pub fn probe(
     second: u64,
 ) -> u64
     ghost { Plan }
-    requires { λ P. ⌜ planOf (length (now workloads)) sectors (now workloads) (now edges) (now constraints) ≡ P ⌝ }
+    requires { λ P. ⌜ planOf (length (now workloads)) sectors (now workloads) (now edges) (now counts) (now visits) (now constraints) ≡ P ⌝ }
     requires { λ P. ⌜ Exchanging P whole (now start) (now near) (now areas) (now colouring) (now work) (now gauges) (now queue) standing first second ⌝ }
+    requires { λ P. ⌜ Flown P (now timed) (now counts) (now visits) (now visited) (now flights) (now firsts) ⌝ }
     ensures { λ P r. ⌜ r ≡ total P (swap (now (colouring .entry)) first second) ⌝ }
     ensures { λ P r. ⌜ now (colouring .exit) ≡ now (colouring .entry) ⌝ }
 {
@@ -123,10 +150,16 @@ pub fn probe(
         sectors,
         workloads,
         edges,
+        counts,
+        visits,
         constraints,
         start,
         near,
         areas,
+        timed,
+        visited,
+        flights,
+        firsts,
         colouring,
         work,
         queue,
@@ -152,10 +185,16 @@ fn turn_both(
     sectors: u64,
     workloads: &[u64],
     edges: &[u64],
+    counts: &[u64],
+    visits: &[u64],
     constraints: &[u64],
     start: &[u64],
     near: &[u64],
     areas: &[u64],
+    timed: &[u64],
+    visited: &[u64],
+    flights: &[u64],
+    firsts: &[u64],
     colouring: &mut [u64],
     labels: &mut [u64],
     queue: &mut [u64],
@@ -164,10 +203,11 @@ fn turn_both(
     second: u64,
 ) -> Turned
     ghost { Plan }
-    requires { λ P. ⌜ planOf (length (now workloads)) sectors (now workloads) (now edges) (now constraints) ≡ P ⌝ }
+    requires { λ P. ⌜ planOf (length (now workloads)) sectors (now workloads) (now edges) (now counts) (now visits) (now constraints) ≡ P ⌝ }
     requires { λ P. ⌜ Swapping P (now start) (now near) (now areas) (now colouring) (now queue) first second ⌝ }
     requires { λ P. ⌜ before ≡ sidesOf P (now colouring) (at (now colouring) first) (at (now colouring) second) ⌝ }
     requires { λ P. ⌜ now labels ≡ labelsOf (P .edges) (now colouring) ⌝ }
+    requires { λ P. ⌜ Flown P (now timed) (now counts) (now visits) (now visited) (now flights) (now firsts) ⌝ }
     ensures { λ P r. ⌜ Followed P (now (colouring .entry)) (swap (now (colouring .entry)) first second) (at (now (colouring .entry)) first) (at (now (colouring .entry)) second) (now (colouring .exit)) (now (labels .exit)) r ⌝ }
 {
     let regions = workloads.len();
@@ -179,10 +219,16 @@ fn turn_both(
         sectors,
         workloads,
         edges,
+        counts,
+        visits,
         constraints,
         start,
         near,
         areas,
+        timed,
+        visited,
+        flights,
+        firsts,
         colouring,
         labels,
         queue,
@@ -195,10 +241,16 @@ fn turn_both(
         sectors,
         workloads,
         edges,
+        counts,
+        visits,
         constraints,
         start,
         near,
         areas,
+        timed,
+        visited,
+        flights,
+        firsts,
         colouring,
         labels,
         queue,
@@ -215,10 +267,16 @@ pub fn make(
     whole: u64,
     workloads: &[u64],
     edges: &[u64],
+    counts: &[u64],
+    visits: &[u64],
     constraints: &[u64],
     start: &[u64],
     near: &[u64],
     areas: &[u64],
+    timed: &[u64],
+    visited: &[u64],
+    flights: &[u64],
+    firsts: &[u64],
     colouring: &mut [u64],
     work: &mut [u64],
     gauges: &mut [u64],
@@ -228,8 +286,9 @@ pub fn make(
     second: u64,
 ) -> Made
     ghost { Plan }
-    requires { λ P. ⌜ planOf (length (now workloads)) sectors (now workloads) (now edges) (now constraints) ≡ P ⌝ }
+    requires { λ P. ⌜ planOf (length (now workloads)) sectors (now workloads) (now edges) (now counts) (now visits) (now constraints) ≡ P ⌝ }
     requires { λ P. ⌜ Exchanging P whole (now start) (now near) (now areas) (now colouring) (now work) (now gauges) (now queue) standing first second ⌝ }
+    requires { λ P. ⌜ Flown P (now timed) (now counts) (now visits) (now visited) (now flights) (now firsts) ⌝ }
     ensures { λ P r. ⌜ Remade P (now (colouring .entry)) (now (work .entry)) (swap (now (colouring .entry)) first second) (now (colouring .exit)) (now (work .exit)) (now (gauges .exit)) r ⌝ }
 {
     let from = colouring[first as usize - 1];
@@ -246,10 +305,16 @@ pub fn make(
         sectors,
         workloads,
         edges,
+        counts,
+        visits,
         constraints,
         start,
         near,
         areas,
+        timed,
+        visited,
+        flights,
+        firsts,
         colouring,
         &mut work[..regions],
         queue,
@@ -262,6 +327,8 @@ pub fn make(
         whole,
         workloads,
         edges,
+        counts,
+        visits,
         constraints,
         colouring,
         work,

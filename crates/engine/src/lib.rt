@@ -5,6 +5,7 @@ ghost use lib.ListN.{length};
 ghost use lib.IntN.{pos, _-ℤ_};
 ghost use Rattle.meaning.specs.Plan.{Plan, planOf};
 ghost use Rattle.engine.specs.State.{Setting, Ready, Within, Opening, Opened, Answered};
+ghost use Rattle.engine.specs.Flown.{Priced, Flown};
 use judge::Figures;
 use terms::Move;
 
@@ -48,10 +49,16 @@ pub fn step(
     whole: u64,
     workloads: &[u64],
     edges: &[u64],
+    counts: &[u64],
+    visits: &[u64],
     constraints: &[u64],
     start: &[u64],
     near: &[u64],
     areas: &[u64],
+    timed: &[u64],
+    visited: &[u64],
+    flights: &[u64],
+    firsts: &[u64],
     colouring: &mut [u64],
     work: &mut [u64],
     gauges: &mut [u64],
@@ -60,10 +67,11 @@ pub fn step(
     asked: Move,
 ) -> Stepped
     ghost { Plan }
-    requires { λ P. ⌜ planOf (length (now workloads)) sectors (now workloads) (now edges) (now constraints) ≡ P ⌝ }
+    requires { λ P. ⌜ planOf (length (now workloads)) sectors (now workloads) (now edges) (now counts) (now visits) (now constraints) ≡ P ⌝ }
     requires { λ P. ⌜ Setting P whole (now start) (now near) (now areas) (now queue) ⌝ }
     requires { λ P. ⌜ Ready P (now colouring) (now work) (now gauges) standing ⌝ }
     requires { λ P. ⌜ Within P asked ⌝ }
+    requires { λ P. ⌜ Flown P (now timed) (now counts) (now visits) (now visited) (now flights) (now firsts) ⌝ }
     ensures { λ P r. ⌜ Answered P (now (colouring .entry)) (now (work .entry)) asked (now (colouring .exit)) (now (work .exit)) (now (gauges .exit)) r ⌝ }
 {
     let before = standing.total;
@@ -79,10 +87,16 @@ pub fn step(
                     whole,
                     workloads,
                     edges,
+                    counts,
+                    visits,
                     constraints,
                     start,
                     near,
                     areas,
+                    timed,
+                    visited,
+                    flights,
+                    firsts,
                     colouring,
                     work,
                     gauges,
@@ -103,10 +117,16 @@ pub fn step(
                 whole,
                 workloads,
                 edges,
+                counts,
+                visits,
                 constraints,
                 start,
                 near,
                 areas,
+                timed,
+                visited,
+                flights,
+                firsts,
                 colouring,
                 work,
                 gauges,
@@ -132,10 +152,16 @@ pub fn step(
                     whole,
                     workloads,
                     edges,
+                    counts,
+                    visits,
                     constraints,
                     start,
                     near,
                     areas,
+                    timed,
+                    visited,
+                    flights,
+                    firsts,
                     colouring,
                     work,
                     gauges,
@@ -156,10 +182,16 @@ pub fn step(
                 whole,
                 workloads,
                 edges,
+                counts,
+                visits,
                 constraints,
                 start,
                 near,
                 areas,
+                timed,
+                visited,
+                flights,
+                firsts,
                 colouring,
                 work,
                 gauges,
@@ -180,10 +212,16 @@ pub fn step(
                 whole,
                 workloads,
                 edges,
+                counts,
+                visits,
                 constraints,
                 start,
                 near,
                 areas,
+                timed,
+                visited,
+                flights,
+                firsts,
                 colouring,
                 work,
                 region.0,
@@ -210,25 +248,31 @@ pub fn begin(
     whole: u64,
     workloads: &[u64],
     edges: &[u64],
+    counts: &[u64],
+    visits: &[u64],
     constraints: &[u64],
     start: &[u64],
     near: &[u64],
     areas: &[u64],
+    timed: &[u64],
     colouring: &mut [u64],
     work: &mut [u64],
     gauges: &mut [u64],
     queue: &mut [u64],
 ) -> Standing
     ghost { Plan }
-    requires { λ P. ⌜ planOf (length (now workloads)) sectors (now workloads) (now edges) (now constraints) ≡ P ⌝ }
+    requires { λ P. ⌜ planOf (length (now workloads)) sectors (now workloads) (now edges) (now counts) (now visits) (now constraints) ≡ P ⌝ }
     requires { λ P. ⌜ Setting P whole (now start) (now near) (now areas) (now queue) ⌝ }
     requires { λ P. ⌜ Opening P (now colouring) (now work) (now gauges) ⌝ }
+    requires { λ P. ⌜ Priced P (now timed) (now counts) (now visits) ⌝ }
     ensures { λ P r. ⌜ Opened P (now (colouring .entry)) (now (work .entry)) (now (colouring .exit)) (now (work .exit)) (now (gauges .exit)) r ⌝ }
 {
     memory::lay_out(
         sectors,
         workloads,
         edges,
+        counts,
+        visits,
         constraints,
         start,
         near,
@@ -240,12 +284,14 @@ pub fn begin(
     let counts_end = regions + sectors as usize;
     let loads_end = counts_end + sectors as usize;
     let border = judge::tallies::border_of(edges, colouring);
+    let dwell = flights::pricing::price_all(timed, counts, visits, colouring);
     let figures = judge::measures::figures_of(
         sectors,
         whole,
         &work[regions..counts_end],
         &work[counts_end..loads_end],
         border,
+        dwell,
     );
     judge::measures::gauge_all(constraints, &work[counts_end..loads_end], gauges);
     let total = judge::verdicts::total(constraints, figures, gauges);

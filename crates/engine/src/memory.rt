@@ -76,6 +76,8 @@ pub fn lay_out(
     sectors: u64,
     workloads: &[u64],
     edges: &[u64],
+    counts: &[u64],
+    visits: &[u64],
     constraints: &[u64],
     start: &[u64],
     near: &[u64],
@@ -84,7 +86,7 @@ pub fn lay_out(
     queue: &mut [u64],
 )
     ghost { Plan }
-    requires { λ P. ⌜ planOf (length (now workloads)) sectors (now workloads) (now edges) (now constraints) ≡ P ⌝ }
+    requires { λ P. ⌜ planOf (length (now workloads)) sectors (now workloads) (now edges) (now counts) (now visits) (now constraints) ≡ P ⌝ }
     requires { λ P. ⌜ Blank P (now start) (now near) (now colouring) (now work) (now queue) ⌝ }
     ensures { λ P _. ⌜ now (colouring .exit) ≡ now (colouring .entry) ⌝ }
     ensures { λ P _. ⌜ now (work .exit) ≡ memory P (now (colouring .entry)) ++ drop (memoryLength P) (now (work .entry)) ⌝ }

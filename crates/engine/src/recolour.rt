@@ -6,6 +6,7 @@ ghost use Rattle.meaning.specs.Kinds.{total};
 ghost use Rattle.meaning.specs.Moves.{recolour};
 ghost use Rattle.engine.specs.Remade.{Remade};
 ghost use Rattle.engine.specs.Recolouring.{Recolouring};
+ghost use Rattle.engine.specs.Flown.{Flown};
 use crate::Made;
 use crate::Standing;
 use crate::memory::sides_in;
@@ -21,10 +22,16 @@ pub fn probe(
     whole: u64,
     workloads: &[u64],
     edges: &[u64],
+    counts: &[u64],
+    visits: &[u64],
     constraints: &[u64],
     start: &[u64],
     near: &[u64],
     areas: &[u64],
+    timed: &[u64],
+    visited: &[u64],
+    flights: &[u64],
+    firsts: &[u64],
     colouring: &mut [u64],
     work: &[u64],
     gauges: &[u64],
@@ -34,8 +41,9 @@ pub fn probe(
     sector: u64,
 ) -> u64
     ghost { Plan }
-    requires { λ P. ⌜ planOf (length (now workloads)) sectors (now workloads) (now edges) (now constraints) ≡ P ⌝ }
+    requires { λ P. ⌜ planOf (length (now workloads)) sectors (now workloads) (now edges) (now counts) (now visits) (now constraints) ≡ P ⌝ }
     requires { λ P. ⌜ Recolouring P whole (now start) (now near) (now areas) (now colouring) (now work) (now gauges) (now queue) standing region sector ⌝ }
+    requires { λ P. ⌜ Flown P (now timed) (now counts) (now visits) (now visited) (now flights) (now firsts) ⌝ }
     ensures { λ P r. ⌜ r ≡ total P (recolour (now (colouring .entry)) region sector) ⌝ }
     ensures { λ P r. ⌜ now (colouring .exit) ≡ now (colouring .entry) ⌝ }
 {
@@ -47,10 +55,16 @@ pub fn probe(
         sectors,
         workloads,
         edges,
+        counts,
+        visits,
         constraints,
         start,
         near,
         areas,
+        timed,
+        visited,
+        flights,
+        firsts,
         colouring,
         work,
         queue,
@@ -67,10 +81,16 @@ pub fn make(
     whole: u64,
     workloads: &[u64],
     edges: &[u64],
+    counts: &[u64],
+    visits: &[u64],
     constraints: &[u64],
     start: &[u64],
     near: &[u64],
     areas: &[u64],
+    timed: &[u64],
+    visited: &[u64],
+    flights: &[u64],
+    firsts: &[u64],
     colouring: &mut [u64],
     work: &mut [u64],
     gauges: &mut [u64],
@@ -80,8 +100,9 @@ pub fn make(
     sector: u64,
 ) -> Made
     ghost { Plan }
-    requires { λ P. ⌜ planOf (length (now workloads)) sectors (now workloads) (now edges) (now constraints) ≡ P ⌝ }
+    requires { λ P. ⌜ planOf (length (now workloads)) sectors (now workloads) (now edges) (now counts) (now visits) (now constraints) ≡ P ⌝ }
     requires { λ P. ⌜ Recolouring P whole (now start) (now near) (now areas) (now colouring) (now work) (now gauges) (now queue) standing region sector ⌝ }
+    requires { λ P. ⌜ Flown P (now timed) (now counts) (now visits) (now visited) (now flights) (now firsts) ⌝ }
     ensures { λ P r. ⌜ Remade P (now (colouring .entry)) (now (work .entry)) (recolour (now (colouring .entry)) region sector) (now (colouring .exit)) (now (work .exit)) (now (gauges .exit)) r ⌝ }
 {
     let own = colouring[region as usize - 1];
@@ -97,10 +118,16 @@ pub fn make(
         sectors,
         workloads,
         edges,
+        counts,
+        visits,
         constraints,
         start,
         near,
         areas,
+        timed,
+        visited,
+        flights,
+        firsts,
         colouring,
         &mut work[..regions],
         queue,
@@ -113,6 +140,8 @@ pub fn make(
         whole,
         workloads,
         edges,
+        counts,
+        visits,
         constraints,
         colouring,
         work,

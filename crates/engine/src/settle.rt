@@ -18,6 +18,8 @@ pub fn settle(
     whole: u64,
     workloads: &[u64],
     edges: &[u64],
+    counts: &[u64],
+    visits: &[u64],
     constraints: &[u64],
     colouring: &[u64],
     work: &mut [u64],
@@ -28,7 +30,7 @@ pub fn settle(
     change: Change,
 ) -> Standing
     ghost { Plan }
-    requires { λ P. ⌜ planOf (length (now workloads)) sectors (now workloads) (now edges) (now constraints) ≡ P ⌝ }
+    requires { λ P. ⌜ planOf (length (now workloads)) sectors (now workloads) (now edges) (now counts) (now visits) (now constraints) ≡ P ⌝ }
     requires { λ P. ⌜ Settling P whole (now colouring) (now work) (now gauges) standing own sector change ⌝ }
     ensures { λ P r. ⌜ Left P (now (work .entry)) (now (colouring .entry)) (now (colouring .entry)) (now (work .exit)) (now (gauges .exit)) ⌝ }
     ensures { λ P r. ⌜ r ≡ standingOf P (now (colouring .entry)) ⌝ }

@@ -1,27 +1,80 @@
 // What giving a region to another sector changes: as it would be, and as the colouring and the labels follow it.
 ghost use mathlib.Core.Path.{_≡_};
-ghost use Prim.Native.Nat.{_*_, _≤_};
 ghost use lib.ListN.{length};
-ghost use Rattle.lists.specs.Sums.{at};
-ghost use Rattle.meaning.specs.Plan.{Plan, planOf, mostEdges, mostArea};
+ghost use Rattle.lists.specs.Sums.{In, at};
+ghost use Rattle.meaning.specs.Plan.{Plan, planOf, flightsOf, constraintsOf};
 ghost use Rattle.meaning.specs.Joined.{labels as labelsOf};
 ghost use Rattle.meaning.specs.Moves.{recolour};
-ghost use Rattle.change.specs.Changed.{sidesOf};
+ghost use Rattle.change.specs.Changed.{sidesOf, Single};
+ghost use Rattle.visitors.specs.Visitors.{Pricing};
 ghost use Rattle.engine.specs.Memory.{Kept};
 ghost use Rattle.engine.specs.Turning.{Movable, changeOf, Turning, Turns, Followed};
+ghost use Rattle.engine.specs.Flown.{swingBy, Flown};
 use crate::memory::sides_in;
 use change::Change;
 use change::Pair;
 use change::Sides;
+use change::Swing;
 use search::Look;
 use search::look_anew;
 use search::look_at;
 use search::meet;
+use visitors::price_visitors;
 
-// What giving a region to another sector changes, by what the two sectors have before it, the region's workload and a look at the region.
-fn change_of(before: Sides, workload: u64, look: Look) -> Change
+// What the flights that visit a region cost before and after it is given to the sector.
+fn swing_at(
+    counts: &[u64],
+    visits: &[u64],
+    timed: &[u64],
+    visited: &[u64],
+    flights: &[u64],
+    firsts: &[u64],
+    colouring: &mut [u64],
+    region: u64,
+    sector: u64,
+) -> Swing
+    requires { ⌜ Pricing (length (now colouring)) (now timed) (now counts) (now visits) (now visited) (now flights) (now firsts) ⌝ }
+    requires { ⌜ In (length (now colouring)) region ⌝ }
+    ensures { λ r. ⌜ r ≡ swingBy (constraintsOf (now (timed .entry))) (flightsOf (now (counts .entry)) (now (visits .entry))) (now (colouring .entry)) region sector ⌝ }
+    ensures { λ r. ⌜ now (colouring .exit) ≡ now (colouring .entry) ⌝ }
+{
+    if timed.len() == 0 {
+        return Swing { gained: 0, lost: 0 };
+    }
+    let z = region as usize - 1;
+    let own = colouring[z];
+    let lost = price_visitors(
+        timed,
+        counts,
+        visits,
+        visited,
+        flights,
+        firsts,
+        colouring,
+        true,
+        region,
+    );
+    colouring[z] = sector;
+    let gained = price_visitors(
+        timed,
+        counts,
+        visits,
+        visited,
+        flights,
+        firsts,
+        colouring,
+        true,
+        region,
+    );
+    colouring[z] = own;
+    Swing { gained, lost }
+}
+
+// What giving a region to another sector changes, by what the two sectors have before it, the region's workload, a look at the region
+// and what the flights that visit it cost.
+fn change_of(before: Sides, workload: u64, look: Look, dwell: Swing) -> Change
     requires { ⌜ Movable before workload look ⌝ }
-    ensures { λ r. ⌜ r ≡ changeOf before workload look ⌝ }
+    ensures { λ r. ⌜ r ≡ changeOf before workload look dwell ⌝ }
 {
     let components = before.components;
     let workloads = before.workloads;
@@ -38,11 +91,15 @@ fn change_of(before: Sides, workload: u64, look: Look) -> Change
         components: components_after,
         workloads: workloads_after,
     };
+    let border = Swing {
+        gained: met.here,
+        lost: met.there,
+    };
     Change {
         before,
         after,
-        gained: met.here,
-        lost: met.there,
+        border,
+        dwell,
     }
 }
 
@@ -51,10 +108,16 @@ pub fn change_at(
     sectors: u64,
     workloads: &[u64],
     edges: &[u64],
+    counts: &[u64],
+    visits: &[u64],
     constraints: &[u64],
     start: &[u64],
     near: &[u64],
     areas: &[u64],
+    timed: &[u64],
+    visited: &[u64],
+    flights: &[u64],
+    firsts: &[u64],
     colouring: &mut [u64],
     work: &[u64],
     queue: &mut [u64],
@@ -62,9 +125,10 @@ pub fn change_at(
     sector: u64,
 ) -> Change
     ghost { Plan }
-    requires { λ P. ⌜ planOf (length (now workloads)) sectors (now workloads) (now edges) (now constraints) ≡ P ⌝ }
+    requires { λ P. ⌜ planOf (length (now workloads)) sectors (now workloads) (now edges) (now counts) (now visits) (now constraints) ≡ P ⌝ }
     requires { λ P. ⌜ Turning P (now start) (now near) (now areas) (now colouring) (now queue) region sector ⌝ }
     requires { λ P. ⌜ Kept P (now colouring) (now work) ⌝ }
+    requires { λ P. ⌜ Flown P (now timed) (now counts) (now visits) (now visited) (now flights) (now firsts) ⌝ }
     ensures { λ P r. ⌜ Turns P (now (colouring .entry)) region sector r ⌝ }
     ensures { λ P r. ⌜ now (colouring .exit) ≡ now (colouring .entry) ⌝ }
 {
@@ -83,7 +147,18 @@ pub fn change_at(
         v,
         sector,
     );
-    change_of(before, workload, look)
+    let dwell = swing_at(
+        counts,
+        visits,
+        timed,
+        visited,
+        flights,
+        firsts,
+        colouring,
+        region,
+        sector,
+    );
+    change_of(before, workload, look, dwell)
 }
 
 // What giving the region to another sector would change, by what the two sectors have, where the labels are not known.
@@ -91,10 +166,16 @@ pub fn change_anew(
     sectors: u64,
     workloads: &[u64],
     edges: &[u64],
+    counts: &[u64],
+    visits: &[u64],
     constraints: &[u64],
     start: &[u64],
     near: &[u64],
     areas: &[u64],
+    timed: &[u64],
+    visited: &[u64],
+    flights: &[u64],
+    firsts: &[u64],
     colouring: &mut [u64],
     queue: &mut [u64],
     before: Sides,
@@ -102,16 +183,28 @@ pub fn change_anew(
     sector: u64,
 ) -> Change
     ghost { Plan }
-    requires { λ P. ⌜ planOf (length (now workloads)) sectors (now workloads) (now edges) (now constraints) ≡ P ⌝ }
+    requires { λ P. ⌜ planOf (length (now workloads)) sectors (now workloads) (now edges) (now counts) (now visits) (now constraints) ≡ P ⌝ }
     requires { λ P. ⌜ Turning P (now start) (now near) (now areas) (now colouring) (now queue) region sector ⌝ }
     requires { λ P. ⌜ before ≡ sidesOf P (now colouring) (at (now colouring) region) sector ⌝ }
+    requires { λ P. ⌜ Flown P (now timed) (now counts) (now visits) (now visited) (now flights) (now firsts) ⌝ }
     ensures { λ P r. ⌜ Turns P (now (colouring .entry)) region sector r ⌝ }
     ensures { λ P r. ⌜ now (colouring .exit) ≡ now (colouring .entry) ⌝ }
 {
     let v = region as usize;
     let workload = workloads[v - 1];
     let look = look_anew(edges, start, near, areas, colouring, queue, v, sector);
-    change_of(before, workload, look)
+    let dwell = swing_at(
+        counts,
+        visits,
+        timed,
+        visited,
+        flights,
+        firsts,
+        colouring,
+        region,
+        sector,
+    );
+    change_of(before, workload, look, dwell)
 }
 
 // What has changed, and how many labels are new.
@@ -125,10 +218,16 @@ pub fn turn(
     sectors: u64,
     workloads: &[u64],
     edges: &[u64],
+    counts: &[u64],
+    visits: &[u64],
     constraints: &[u64],
     start: &[u64],
     near: &[u64],
     areas: &[u64],
+    timed: &[u64],
+    visited: &[u64],
+    flights: &[u64],
+    firsts: &[u64],
     colouring: &mut [u64],
     labels: &mut [u64],
     queue: &mut [u64],
@@ -137,12 +236,13 @@ pub fn turn(
     sector: u64,
 ) -> Turned
     ghost { Plan }
-    requires { λ P. ⌜ planOf (length (now workloads)) sectors (now workloads) (now edges) (now constraints) ≡ P ⌝ }
+    requires { λ P. ⌜ planOf (length (now workloads)) sectors (now workloads) (now edges) (now counts) (now visits) (now constraints) ≡ P ⌝ }
     requires { λ P. ⌜ Turning P (now start) (now near) (now areas) (now colouring) (now queue) region sector ⌝ }
     requires { λ P. ⌜ before ≡ sidesOf P (now colouring) (at (now colouring) region) sector ⌝ }
     requires { λ P. ⌜ now labels ≡ labelsOf (P .edges) (now colouring) ⌝ }
+    requires { λ P. ⌜ Flown P (now timed) (now counts) (now visits) (now visited) (now flights) (now firsts) ⌝ }
     ensures { λ P r. ⌜ Followed P (now (colouring .entry)) (recolour (now (colouring .entry)) region sector) (at (now (colouring .entry)) region) sector (now (colouring .exit)) (now (labels .exit)) r ⌝ }
-    ensures { λ P r. ⌜ r .change .gained ≤ mostEdges * mostArea ⌝ }
+    ensures { λ P r. ⌜ Single (r .change) ⌝ }
 {
     let v = region as usize;
     let workload = workloads[v - 1];
@@ -157,12 +257,23 @@ pub fn turn(
         v,
         sector,
     );
+    let dwell = swing_at(
+        counts,
+        visits,
+        timed,
+        visited,
+        flights,
+        firsts,
+        colouring,
+        region,
+        sector,
+    );
     let labelled = relabel::recolour(edges, start, near, colouring, labels, queue, v, sector);
     let look = Look {
         pieces: labelled.pieces,
         met,
     };
-    let change = change_of(before, workload, look);
+    let change = change_of(before, workload, look, dwell);
     Turned {
         change,
         relabelled: labelled.relabelled,

@@ -8,10 +8,11 @@ use lib.ListN.{length, getD}
 use Rattle.lists.specs.Sums.{at, from, upTo, listOf, bit, sum}
 use Rattle.terms.specs.Distance.{gap, stands, distance}
 use Rattle.meaning.specs.Plan.{Constraint, Plan, constraintLength, constraintAt, constraintsOf}
-use Rattle.meaning.specs.Kinds.{nccAll, border, counts, deviation, bounded, byKind}
+use Rattle.meaning.specs.Kinds.{nccAll, border, counts, deviation, bounded, dwelling, byKind}
+use Rattle.meaning.specs.Prices.{dwellTotal}
 use Rattle.judge.specs.declared.Figures.{Figures}
 
--- NCC, the sum of max(NCC(c) - 1, 0), T and D
+-- NCC, the sum of max(NCC(c) - 1, 0), T, D, and what the constraints of kind 5 add to the total
 unfoldable pub figuresOf : Plan → List ℕ → Figures
 figuresOf P col =
     record {
@@ -19,16 +20,18 @@ figuresOf P col =
       excess = sum (counts P col) (λ n. n - 1);
       border = border P col;
       deviation = deviation P col;
+      dwell = dwellTotal P col;
     }
 
--- the figures by the whole workload, the components and the workload of each sector, and the border
-unfoldable pub figuresBy : ℕ → ℕ → List ℕ → List ℕ → ℕ → Figures
-figuresBy S W counts loads T =
+-- the figures by the whole workload, the components and the workload of each sector, the border, and what kind 5 adds to the total
+unfoldable pub figuresBy : ℕ → ℕ → List ℕ → List ℕ → ℕ → ℕ → Figures
+figuresBy S W counts loads T dwell =
     record {
       components = sum counts (λ n. n);
       excess = sum counts (λ n. n - 1);
       border = T;
       deviation = sum loads (λ x. gap (S * x) W);
+      dwell = dwell;
     }
 
 -- what a constraint keeps of its own: for kind 4 the sum of the distances, for the other kinds nothing
@@ -38,6 +41,14 @@ gaugeOf P col k = cond (eqb (k .kind) 4) (bounded P col k) 0
 -- the gauges of all constraints
 unfoldable pub gauges : Plan → List ℕ → List ℕ
 gauges P col = map (gaugeOf P col) (P .constraints)
+
+-- what a constraint's verdict asks for besides the figures: for kind 5 the distances of the stretches too
+unfoldable pub verdictGaugeOf : Plan → List ℕ → Constraint → ℕ
+verdictGaugeOf P col k = cond (eqb (k .kind) 5) (dwelling P col k) (gaugeOf P col k)
+
+-- that of each constraint
+unfoldable pub verdictGauges : Plan → List ℕ → List ℕ
+verdictGauges P col = map (verdictGaugeOf P col) (P .constraints)
 
 -- a constraint's gauge by the workload of each sector
 unfoldable pub gaugeBy : List ℕ → Constraint → ℕ
@@ -58,7 +69,7 @@ unweighted kind relation limit = record { kind = kind; relation = relation; limi
 -- the violation of a constraint by the figures and its gauge
 unfoldable pub violationBy : Figures → ℕ → Constraint → ℕ
 violationBy F gauge k =
-    byKind (k .kind) (bit (not (stands (k .relation) (F .components) (k .limit))) + F .excess) (F .border - k .limit) (F .deviation - k .limit) gauge
+    byKind (k .kind) (bit (not (stands (k .relation) (F .components) (k .limit))) + F .excess) (F .border - k .limit) (F .deviation - k .limit) gauge gauge
 
 -- the violation of constraint i, from 0, of the flat list
 abbrev pub violationAt : Figures → List ℕ → List ℕ → ℕ → ℕ
@@ -68,9 +79,9 @@ violationAt F gauges constraints i = violationBy F (getD gauges i 0) (constraint
 abbrev pub weightedAt : Figures → List ℕ → List ℕ → ℕ → ℕ
 weightedAt F gauges constraints i = constraintAt constraints i .weight * violationAt F gauges constraints i
 
--- the total of the first n constraints of the flat list, by the figures and the gauges
+-- the total of the first n constraints of the flat list, by the figures and the gauges, of which those of kind 5 are 0
 unfoldable pub totalBy : Figures → List ℕ → List ℕ → ℕ → ℕ
-totalBy F gauges constraints n = sum (from 0 n) (weightedAt F gauges constraints)
+totalBy F gauges constraints n = sum (from 0 n) (weightedAt F gauges constraints) + F .dwell
 
 -- for each violation its verdict: 1 or 0 for holds, then the violation
 abbrev pub judged : List ℕ → List ℕ

@@ -1,10 +1,10 @@
 -- What the judging functions take for granted: that the numbers are as small as the limits of document 01 make them.
 -- Assumes nothing.
-use Prim.Native.Nat.{ℕ, _+_, _-_, _*_, _/_, _≤_, _<_}
+use Prim.Native.Nat.{ℕ, _+_, _-_, _*_, _/_, _≤_, _<_, _^_}
 use native.Mathlib.Nat.{mul-le-mul}
 use native.Mathlib.Omega.{arith}
 use mathlib.Core.Path.{_≡_, ap, _∙_}
-use mathlib.Core.List.{List}
+use mathlib.Core.List.{List, map}
 use mathlib.Core.Bool.{Bool, not}
 use lib.Dec.{eqb}
 use lib.ListN.{length, getD, length-map}
@@ -19,9 +19,11 @@ use Rattle.meaning.specs.Plan.{Edge, Constraint, Plan, Limits, ConstraintLimits
 use Rattle.meaning.specs.Joined.{labels, leads}
 use Rattle.meaning.specs.Kinds.{ncc, nccAll, load, whole, areaOf, counts, loads, bounded, byKind}
 use Rattle.meaning.specs.Paths.{Ends, limits-ends}
-use Rattle.meaning.specs.Bounds.{count-bound, ncc-bound, load-bound, whole-bound, border-bound, deviation-bound}
+use Rattle.meaning.specs.Bounds.{mostDwelling, count-bound, ncc-bound, load-bound, whole-bound, border-bound, deviation-bound, dwelling-bound}
+use Rattle.meaning.specs.Prices.{mostDwellTotal}
+use Rattle.meaning.specs.PriceLaws.{dwell-total-bound}
 use Rattle.judge.specs.declared.Figures.{Figures}
-use Rattle.judge.specs.Figures.{figuresOf, gaugeOf, gauges, constraintCount, unweighted, violationBy, weightedAt, totalBy}
+use Rattle.judge.specs.Figures.{figuresOf, gaugeOf, gauges, verdictGaugeOf, verdictGauges, constraintCount, unweighted, violationBy, weightedAt, totalBy}
 
 -- the most workload that a sector, or the whole plan, can have
 abbrev pub mostLoad : ℕ
@@ -35,9 +37,9 @@ mostGap = mostSectors * mostLoad
 abbrev pub mostDistance : ℕ
 mostDistance = mostLoad + mostLimit + 1
 
--- the most that a constraint's gauge, or its violation, can be
+-- the most that a constraint's gauge, or its violation, can be: what kind 5 may have
 abbrev pub mostGauge : ℕ
-mostGauge = mostSectors * mostDistance
+mostGauge = mostDwelling
 
 -- few edges between the regions 1..R, none of a large area
 pub record SmallEdges (R : ℕ) (edges : List Edge) : Type 0 where
@@ -58,6 +60,7 @@ pub record SmallFigures (F : Figures) : Type 0 where
   pub excess : F .excess ≤ mostSectors * mostRegions
   pub border : F .border ≤ mostEdges * mostArea
   pub deviation : F .deviation ≤ mostSectors * mostGap
+  pub dwell : F .dwell ≤ mostDwellTotal
 
 -- figures and gauges as small as those of a colouring, a gauge for each constraint of the flat list, and constraints within their limits
 pub record Small (F : Figures) (gauges constraints : List ℕ) : Type 0 where
@@ -75,7 +78,8 @@ module _ {loads : List ℕ} (few : Few mostSectors mostLoad loads) where
 
   -- the distances from a limit
   pub distances-small : (relation : ℕ) {limit : ℕ} → limit ≤ mostLimit → sum loads (λ x. distance relation x limit) ≤ mostGauge
-  distances-small relation {limit} l = few-sum few mostDistance _ (λ x h. omega (arith, distance-bound relation x limit))
+  distances-small relation {limit} l =
+      omega (arith, few-sum few mostDistance (λ x. distance relation x limit) (λ x h. omega (arith, distance-bound relation x limit)))
 
 -- ---- the numbers of a plan within its limits are as small
 
@@ -113,6 +117,7 @@ module _ (P : Plan) (l : Limits P) where
           excess = few-sum counts-small mostRegions (λ n. n - 1) (λ n h. omega arith);
           border = border-bound P l col;
           deviation = deviation-bound P l col;
+          dwell = dwell-total-bound l col;
         }
 
     -- a gauge
@@ -121,25 +126,35 @@ module _ (P : Plan) (l : Limits P) where
     gauge-small k h =
         cond-le (eqb (k .kind) 4) (distances-small loads-small (k .relation) (h .limit)) (omega arith)
 
-    -- all gauges
-    gauges-small : Few mostConstraints mostGauge (gauges P col)
-    unfolding gauges
-    gauges-small =
+    -- and what a verdict asks for
+    verdict-gauge-small : (k : Constraint) → ConstraintLimits k → verdictGaugeOf P col k ≤ mostGauge
+    unfolding verdictGaugeOf
+    verdict-gauge-small k h = cond-le (eqb (k .kind) 5) (dwelling-bound P l col k (h .limit)) (gauge-small k h)
+
+    -- the figures, and gauges of which each is as small
+    gauged-small : (g : Constraint → ℕ) → ((k : Constraint) → ConstraintLimits k → g k ≤ mostGauge) → (constraints : List ℕ) → P .constraints ≡ constraintsOf constraints → Small (figuresOf P col) (map g (P .constraints)) constraints
+    unfolding constraintsOf
+    gauged-small g h constraints e =
         record {
-          few = rw (length-map (P .constraints) (gaugeOf P col)) (l .constraints);
-          each = every-map _ (gaugeOf P col) (P .constraints) (every-turn gauge-small (P .constraints) (l .constraint));
+          figures = figures-small;
+          gauge =
+              record {
+                few = rw (length-map (P .constraints) g) (l .constraints);
+                each = every-map _ g (P .constraints) (every-turn h (P .constraints) (l .constraint));
+              };
+          size = length-map (P .constraints) g ∙ ap length e ∙ length-listOf (constraintCount constraints) (constraintAt constraints);
+          constraint = rw e at (l .constraint);
         }
 
     -- the figures and the gauges
     pub plan-small : (constraints : List ℕ) → P .constraints ≡ constraintsOf constraints → Small (figuresOf P col) (gauges P col) constraints
-    unfolding gauges constraintsOf
-    plan-small constraints e =
-        record {
-          figures = figures-small;
-          gauge = gauges-small;
-          size = length-map (P .constraints) (gaugeOf P col) ∙ ap length e ∙ length-listOf (constraintCount constraints) (constraintAt constraints);
-          constraint = rw e at (l .constraint);
-        }
+    unfolding gauges
+    plan-small = gauged-small (gaugeOf P col) gauge-small
+
+    -- the figures and the gauges that the verdicts ask for
+    pub verdicts-small : (constraints : List ℕ) → P .constraints ≡ constraintsOf constraints → Small (figuresOf P col) (verdictGauges P col) constraints
+    unfolding verdictGauges
+    verdicts-small = gauged-small (verdictGaugeOf P col) verdict-gauge-small
 
 -- ---- what follows for each item, and for the sums over all
 
@@ -170,7 +185,7 @@ violation-bound F gauge k f g =
     cond-le (eqb (k .kind) 1) (omega (arith, f .excess, bit-le (not (stands (k .relation) (F .components) (k .limit)))))
     (cond-le (eqb (k .kind) 2) (omega (arith, f .border))
     (cond-le (eqb (k .kind) 3) (omega (arith, f .deviation))
-    (cond-le (eqb (k .kind) 4) g (omega arith))))
+    (cond-le (eqb (k .kind) 4) g (cond-le (eqb (k .kind) 5) g (omega arith)))))
 
 module _ {F : Figures} {gauges constraints : List ℕ} (s : Small F gauges constraints) where
   -- a weighted violation is at most 1000 times as much
@@ -179,8 +194,8 @@ module _ {F : Figures} {gauges constraints : List ℕ} (s : Small F gauges const
       mul-le-mul (constraint-limits constraints (s .constraint) i h .weight .high)
       (violation-bound F (getD gauges i 0) (constraintAt constraints i) (s .figures) (few-at (s .gauge) i))
 
-  -- the total is at most 2 * 10 ^ 17
-  pub total-bound : totalBy F gauges constraints (constraintCount constraints) ≤ 200_000_000_000_000_000
+  -- the total fits, though it is made up of figures and gauges of no one colouring
+  pub total-bound : totalBy F gauges constraints (constraintCount constraints) < 2 ^ 64
   unfolding totalBy
   total-bound =
       omega (
@@ -188,4 +203,5 @@ module _ {F : Figures} {gauges constraints : List ℕ} (s : Small F gauges const
         few-bound mostConstraints (mostWeight * mostGauge) (from 0 (constraintCount constraints)) (weightedAt F gauges constraints)
             (rw (length-from 0 (constraintCount constraints), ← s .size) (s .gauge .few))
             (every-from _ 0 (constraintCount constraints) (λ i lo hi. weighted-bound i (omega arith))),
+        s .figures .dwell,
       )

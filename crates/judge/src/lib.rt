@@ -6,13 +6,14 @@ pub mod tallies; // tallies.rt: what each sector has, the border and the whole w
 pub mod measures; // measures.rt: the figures of a colouring and the gauges of the constraints
 pub mod verdicts; // verdicts.rt: the violations, the total and the verdicts, by the figures and the gauges
 
-// The numbers of a colouring that every constraint of kind 1, 2 or 3 reads: all components, those above the first of each sector,
-// the border, and the deviation of the sectors' workloads.
+// The numbers of a colouring that its total is made of, but for the gauges of single constraints: all components, those above the first
+// of each sector, the border, the deviation of the sectors' workloads, and what the constraints of kind 5 add to the total.
 pub struct Figures {
     pub components: u64,
     pub excess: u64,
     pub border: u64,
     pub deviation: u64,
+    pub dwell: u64,
 }
 
 // 1 for a test that passes, 0 for one that fails.

@@ -2,19 +2,19 @@
 ghost use mathlib.Core.Path.{_≡_};
 ghost use Prim.Native.Nat.{_-_, _*_, _≤_};
 ghost use lib.ListN.{length};
-ghost use Rattle.lists.specs.Sums.{In, sum, Every};
+ghost use Rattle.lists.specs.Sums.{sum, Every};
 ghost use Rattle.lists.specs.Few.{Few};
 ghost use Rattle.terms.specs.Distance.{gap, distance};
 ghost use Rattle.meaning.specs.Plan.{ConstraintLimits, mostSectors, mostRegions, mostLimit, constraintsOf};
 ghost use Rattle.judge.specs.Figures.{figuresBy, gaugeBy, gaugesBy, constraintCount, unweighted};
 ghost use Rattle.judge.specs.Small.{mostLoad, SmallTallies};
 use crate::Figures;
-use crate::tallies::sum_of;
-use terms::MadeRelation;
+use lists::sum_of;
 use terms::Relation;
 use terms::excess;
 use terms::limits::BOUNDED;
 use terms::limits::CONSTRAINT_LENGTH;
+use terms::relation_of;
 
 // The components of each sector above its first, summed.
 fn excess_of(counts: &[u64]) -> u64
@@ -46,29 +46,24 @@ fn deviation_of(sectors: u64, whole: u64, loads: &[u64]) -> u64
     sum
 }
 
-// The figures by the tallies, the whole workload and the border.
-pub fn figures_of(sectors: u64, whole: u64, counts: &[u64], loads: &[u64], border: u64) -> Figures
+// The figures by the tallies, the whole workload, the border and what the constraints of kind 5 add to the total.
+pub fn figures_of(
+    sectors: u64,
+    whole: u64,
+    counts: &[u64],
+    loads: &[u64],
+    border: u64,
+    dwell: u64,
+) -> Figures
     requires { ⌜ SmallTallies sectors whole (now counts) (now loads) ⌝ }
-    ensures { λ r. ⌜ r ≡ figuresBy sectors whole (now (counts .entry)) (now (loads .entry)) border ⌝ }
+    ensures { λ r. ⌜ r ≡ figuresBy sectors whole (now (counts .entry)) (now (loads .entry)) border dwell ⌝ }
 {
     Figures {
         components: sum_of(counts),
         excess: excess_of(counts),
         border,
         deviation: deviation_of(sectors, whole, loads),
-    }
-}
-
-// The relation of a code that is one of 1 to 6.
-pub fn relation_of(code: u64) -> Relation
-    requires { ⌜ In 6 code ⌝ }
-    ensures { λ r. ⌜ r .code ≡ code ⌝ }
-{
-    match Relation::new(code) {
-        MadeRelation::Made(relation) => relation,
-        MadeRelation::Refused => Relation {
-            code: Relation::AT_MOST,
-        },
+        dwell,
     }
 }
 

@@ -1,9 +1,9 @@
-// What each sector has, the border and the whole workload, from the plan and its colouring.
+// What each sector has, and the border, from the plan and its colouring.
 ghost use mathlib.Core.Path.{_≡_};
 ghost use mathlib.Core.Bool.{cond};
 ghost use Prim.Native.Nat.{_+_, _/_, _<_, _≤_, _^_};
 ghost use lib.ListN.{length};
-ghost use Rattle.lists.specs.Sums.{In, at, bit, sum, Every};
+ghost use Rattle.lists.specs.Sums.{In, at, bit, Every};
 ghost use Rattle.meaning.specs.Plan.{mostWorkload, edgeLength, edgeAt, edgesOf};
 ghost use Rattle.meaning.specs.Joined.{leads};
 ghost use Rattle.meaning.specs.Kinds.{areaOf, crosses};
@@ -89,18 +89,4 @@ pub fn border_of(edges: &[u64], colouring: &[u64]) -> u64
         k += 1;
     }
     area
-}
-
-// The sum of some numbers: of all workloads, the whole workload.
-pub fn sum_of(numbers: &[u64]) -> u64
-    requires { ⌜ sum (now numbers) (λ n. n) < 2 ^ 64 ⌝ }
-    ensures { λ r. ⌜ r ≡ sum (now (numbers .entry)) (λ n. n) ⌝ }
-{
-    let mut sum = 0;
-    let mut i = 0;
-    while i < numbers.len() {
-        sum += numbers[i];
-        i += 1;
-    }
-    sum
 }

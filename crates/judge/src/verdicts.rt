@@ -12,13 +12,13 @@ ghost use Rattle.judge.specs.Figures.{constraintCount, unweighted, viola
 ghost use Rattle.judge.specs.Small.{SmallFigures, Small};
 use crate::Figures;
 use crate::bit_of;
-use crate::measures::relation_of;
 use terms::excess;
 use terms::limits::BALANCED;
 use terms::limits::BORDER;
 use terms::limits::CONNECTED;
 use terms::limits::CONSTRAINT_LENGTH;
 use terms::limits::VERDICT_LENGTH;
+use terms::relation_of;
 
 // 1 where x does not stand in the relation to the limit, 0 where it does.
 fn missed(relation: u64, x: u64, limit: u64) -> u64
@@ -72,7 +72,7 @@ pub fn weighted_at(constraints: &[u64], figures: Figures, gauges: &[u64], k: usi
     constraints[CONSTRAINT_LENGTH * k + 3] * violation_at(constraints, figures, gauges, k)
 }
 
-// The total: weight times violation, summed over the constraints.
+// The total: weight times violation, summed over the constraints; the figures have what those of kind 5 add to it, and their gauges nothing.
 pub fn total(constraints: &[u64], figures: Figures, gauges: &[u64]) -> u64
     requires { ⌜ Small figures (now gauges) (now constraints) ⌝ }
     ensures { λ r. ⌜ r ≡ totalBy figures (now (gauges .entry)) (now (constraints .entry)) (constraintCount (now (constraints .entry))) ⌝ }
@@ -84,7 +84,7 @@ pub fn total(constraints: &[u64], figures: Figures, gauges: &[u64]) -> u64
         total += weighted_at(constraints, figures, gauges, k);
         k += 1;
     }
-    total
+    total + figures.dwell
 }
 
 // Puts down the verdict on each constraint; what lies beyond stays.

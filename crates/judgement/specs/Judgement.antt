@@ -16,9 +16,9 @@ use Rattle.report.specs.Text.{verdictText, refusedText, mostText}
 use Rattle.sheet.specs.Form.{Contents, contentsIn}
 use Rattle.sheet.specs.Reading.{sheetRefusal, over}
 
--- the plan of some contents
+-- the plan of some contents, which has no flights
 abbrev pub planHeld : Contents → Plan
-planHeld k = planOf (k .R) (k .S) (k .workloads) (k .edges) (k .constraints)
+planHeld k = planOf (k .R) (k .S) (k .workloads) (k .edges) [] [] (k .constraints)
 
 -- the verdicts on them
 abbrev pub verdictsHeld : Contents → List ℕ

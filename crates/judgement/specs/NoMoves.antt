@@ -1,4 +1,4 @@
--- A call without moves on contents that are not refused: nothing of it is refused, and it leaves the verdicts on them and their total.
+-- A call without flights and moves on contents that are not refused: nothing of it is refused, and it leaves the verdicts on them and their total.
 -- Assumes nothing.
 use Prim.Native.Nat.{ℕ, _+_, _*_, _/_, _≤_}
 use native.Mathlib.Omega.{arith}
@@ -10,11 +10,12 @@ use lib.IntN.{ℤ}
 use lib.ListN.{length, drop}
 use Rattle.lists.specs.SumLaws.{every-append}
 use Rattle.lists.specs.ListLaws.{length-listOf}
-use Rattle.meaning.specs.Plan.{constraintLength, constraintAt, constraintsOf, mostRegions, mostSectors, mostConstraints}
+use Rattle.meaning.specs.Plan.{constraintLength, constraintAt, constraintsOf, mostRegions, mostSectors, mostKind, mostConstraints}
 use Rattle.meaning.specs.Moves.{verdictLength, movesOf, last}
 use Rattle.meaning.specs.MoveLaws.{length-verdicts}
-use Rattle.refusals.specs.Table.{Row, none, planTable, roomTable, callTable, callRefusal, planRefusal}
-use Rattle.refusals.specs.Passed.{Passed, passed, passed-none}
+use Rattle.refusals.specs.Table.{Row, none, planTable, roomTable, callTable, callRefusal}
+use Rattle.refusals.specs.Passed.{Passed, passed-none}
+use Rattle.refusals.specs.FewerKinds.{passed-more-kinds}
 use Rattle.call.specs.Promise.{Input, Outcome, given, ran, outcome, Promise, is-outcome, input}
 use Rattle.sheet.specs.Form.{Contents}
 use Rattle.sheet.specs.Reading.{contentsRefusal, over}
@@ -35,10 +36,10 @@ length-held k =
 module _ (k : Contents) (rows : List ℤ) (lent work : List ℕ) where
   -- what it is given
   abbrev pub asked : Input
-  asked = input (k .R) (k .S) (k .workloads) (k .edges) (k .constraints) (k .colouring) [] rows lent work
+  asked = input (k .R) (k .S) (k .workloads) (k .edges) [] [] (k .constraints) (k .colouring) [] rows lent work
 
   planRows : List Row
-  planRows = planTable (k .R) (k .S) (k .workloads) (k .edges) (k .constraints) (k .colouring)
+  planRows = planTable mostKind (k .R) (k .S) (k .workloads) (k .edges) [] [] (k .constraints) (k .colouring)
 
   roomRows : List Row
   roomRows = roomTable (k .R) (k .S) (k .constraints) [] (length rows) (length lent) (length work)
@@ -53,10 +54,15 @@ module _ (k : Contents) (rows : List ℤ) (lent work : List ℕ) where
         let of-work = le-leb (k .R + 2 * k .S + 1) (length work) (omega (arith, l .regions .high, l .sectors .high)) in
         (refl, (rw (le-leb 0 (length rows) (omega arith)), (rw of-verdicts, (rw of-work, tt))))
 
+    -- the call takes more kinds than a sheet
+    passed-plan : Passed planRows
+    unfolding planRows
+    passed-plan = passed-more-kinds (omega arith) (k .R) (k .S) (k .workloads) (k .edges) [] [] (k .constraints) (k .colouring) z
+
     -- nothing is refused
     not-refused : callRefusal (given asked) ≡ none
-    unfolding planTable planRefusal callTable callRefusal planRows roomRows
-    not-refused = passed-none (planRows ++ roomRows) (every-append (λ r. r .given ≡ false) planRows roomRows (passed planRows tt z) passed-room)
+    unfolding callTable callRefusal planRows roomRows
+    not-refused = passed-none (planRows ++ roomRows) (every-append (λ r. r .given ≡ false) planRows roomRows passed-plan passed-room)
 
     -- the total is that of the colouring, and the verdicts on it stand at the front of the lent list
     pub judges : {o : Outcome} → Promise asked o → (o .answer .last ≡ totalHeld k) × (o .verdicts ≡ over (verdictsHeld k) lent)

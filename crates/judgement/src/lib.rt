@@ -56,6 +56,8 @@ fn judge_contents(
         sectors,
         workloads,
         edges,
+        &[],
+        &[],
         constraints,
         colouring,
         &[],

@@ -1,7 +1,7 @@
 -- Laws of sums over a list, of sums over 1..n, and of tables of n numbers.
 -- Assumes nothing.
 use Prim.Native.Nat.{ℕ, zero, suc, _+_, _-_, _*_, _≤_, _<_}
-use native.Mathlib.Nat.{le-of-suc-le-suc, not-suc-le-zero, suc-mul, le-trans, mul-le-mul-right, add-zero, add-suc, suc-add}
+use native.Mathlib.Nat.{le-of-suc-le-suc, not-suc-le-zero, suc-mul, mul-zero, le-trans, mul-le-mul-right, add-zero, add-suc, suc-add}
 use native.Mathlib.Omega.{arith}
 use native.Mathlib.Decide.{ℕ-discrete}
 use mathlib.Core.Path.{_≡_, refl, sym, ap, _∙_}
@@ -71,6 +71,11 @@ module _ {A : Type 0} where
   every-turn h [] p = tt
   every-turn h (x ∷ xs) p = (h x (p .0), every-turn h xs (p .1))
 
+  -- no term is above the sum
+  pub each-at-most : (xs : List A) (f : A → ℕ) → Every (λ x. f x ≤ sum xs f) xs
+  each-at-most [] f = tt
+  each-at-most (x ∷ xs) f = (omega arith, every-turn (λ y h. omega arith) xs (each-at-most xs f))
+
   pub every-append : (P : A → Type 0) (xs ys : List A) → Every P xs → Every P ys → Every P (xs ++ ys)
   every-append P [] ys p q = q
   every-append P (x ∷ xs) ys p q = (p .0, every-append P xs ys (p .1) q)
@@ -83,6 +88,15 @@ module _ {A : Type 0} where
   pub zero-each : (Q : A → Type 0) (xs : List A) (f : A → ℕ) → Every (λ x. f x ≡ 0 ↔ Q x) xs → sum xs f ≡ 0 ↔ Every Q xs
   zero-each Q xs f h =
       (λ e. every-both (λ x i z. i .0 z) xs h (zero-sum xs f e), λ q. sum-zero xs f (every-both (λ x i z. i .1 z) xs h q))
+
+  -- sums whose terms are equal, in the list or not, are equal
+  pub sum-all : (xs : List A) (f g : A → ℕ) → ((x : A) → f x ≡ g x) → sum xs f ≡ sum xs g
+  sum-all xs f g h = sum-ext xs f g (every-all (λ x. f x ≡ g x) h xs)
+
+  -- a sum, each of its terms taken n times
+  pub mul-sum : (n : ℕ) (xs : List A) (f : A → ℕ) → n * sum xs f ≡ sum xs (λ x. n * f x)
+  mul-sum n [] f = mul-zero n
+  mul-sum n (x ∷ xs) f = omega (arith, mul-sum n xs f)
 
 -- two sums, one inside the other, in either order
 pub sum-swap : {A B : Type 0} (xs : List A) (ys : List B) (f : A → B → ℕ) → sum xs (λ x. sum ys (f x)) ≡ sum ys (λ y. sum xs (λ x. f x y))

@@ -1,8 +1,9 @@
-// Sums, counts and tables over lists, and their laws; numbers cleared and copied.
+// Sums, counts and tables over lists, and their laws; numbers cleared, copied and added up.
 ghost use mathlib.Core.Path.{_≡_};
 ghost use mathlib.Core.List.{_++_};
-ghost use Prim.Native.Nat.{_≤_};
+ghost use Prim.Native.Nat.{_≤_, _<_, _^_};
 ghost use lib.ListN.{length, drop, replicate};
+ghost use Rattle.lists.specs.Sums.{sum};
 
 // Makes every number 0.
 pub fn clear(numbers: &mut [u64])
@@ -25,4 +26,18 @@ pub fn copy(from: &[u64], to: &mut [u64])
         to[i] = from[i];
         i += 1;
     }
+}
+
+// The sum of all the numbers.
+pub fn sum_of(numbers: &[u64]) -> u64
+    requires { ⌜ sum (now numbers) (λ n. n) < 2 ^ 64 ⌝ }
+    ensures { λ r. ⌜ r ≡ sum (now (numbers .entry)) (λ n. n) ⌝ }
+{
+    let mut sum = 0;
+    let mut i = 0;
+    while i < numbers.len() {
+        sum += numbers[i];
+        i += 1;
+    }
+    sum
 }

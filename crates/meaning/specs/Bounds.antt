@@ -1,26 +1,55 @@
 -- How large the numbers of a colouring get within the limits of document 01, whatever the colouring's length and sectors.
 -- Assumes nothing.
 use Prim.Native.Nat.{ℕ, _-_, _*_, _≤_}
-use native.Mathlib.Nat.{mul-le-mul}
+use native.Mathlib.Nat.{mul-le-mul, le-trans}
 use native.Mathlib.Omega.{arith}
 use mathlib.Core.List.{List}
 use mathlib.Core.Bool.{Bool, cond, not, _&&_}
 use lib.Dec.{eqb}
-use Rattle.lists.specs.Sums.{at, sum, count}
-use Rattle.lists.specs.SumLaws.{few-bound, every-all, every-turn, length-from, getD-bound}
+use Rattle.lists.specs.Sums.{at, sum, count, Every}
+use Rattle.lists.specs.SumLaws.{few-bound, each-at-most, every-all, every-turn, length-from, getD-bound}
 use Rattle.lists.specs.Tests.{cond-le, bit-le}
 use Rattle.terms.specs.Distance.{stands, distance}
 use Rattle.terms.specs.DistanceLaws.{distance-bound}
-use Rattle.meaning.specs.Plan.{Edge, Constraint, Plan, regions, sectors, mostRegions, mostSectors, mostWorkload, mostEdges, mostArea, mostConstraints, mostLimit, mostWeight, Limits}
+use Rattle.meaning.specs.Plan.{Edge, Visit, Constraint, Plan, regions, sectors, mostRegions, mostSectors, mostWorkload, mostEdges, mostArea, mostFlights, mostVisits, mostDwell, mostConstraints, mostLimit, mostWeight, FlightLimits, Limits}
 use Rattle.meaning.specs.Joined.{labels, leads}
-use Rattle.meaning.specs.Kinds.{ncc, nccAll, load, whole, crosses, border, offBalance, deviation, connected, bounded, byKind, violation, total, leadsTo, borderOf, partOf, regionViolation}
+use Rattle.meaning.specs.Stretches.{stretches, dwellOf, visits}
+use Rattle.meaning.specs.StretchLaws.{stretches-few, stretches-sum}
+use Rattle.meaning.specs.Kinds.{ncc, nccAll, load, whole, crosses, border, offBalance, deviation, connected, bounded, overStretches, offDwell, dwelling, byKind, violation, total, leadsTo, borderOf, dwellingOf, partOf, regionViolation}
 use Rattle.meaning.specs.Components.{connected-all, deviation-all, bounded-all}
 
--- what is due to a kind is at most B where what is due to each of the four is
-by-kind-bound : (kind : ℕ) {a b c d B : ℕ} → a ≤ B → b ≤ B → c ≤ B → d ≤ B → byKind kind a b c d ≤ B
+-- what is due to a kind is at most B where what is due to each of the five is
+by-kind-bound : (kind : ℕ) {a b c d e B : ℕ} → a ≤ B → b ≤ B → c ≤ B → d ≤ B → e ≤ B → byKind kind a b c d e ≤ B
 unfolding byKind
-by-kind-bound kind ha hb hc hd =
-    cond-le (eqb kind 1) ha (cond-le (eqb kind 2) hb (cond-le (eqb kind 3) hc (cond-le (eqb kind 4) hd (omega arith))))
+by-kind-bound kind ha hb hc hd he =
+    cond-le (eqb kind 1) ha
+    (cond-le (eqb kind 2) hb (cond-le (eqb kind 3) hc (cond-le (eqb kind 4) hd (cond-le (eqb kind 5) he (omega arith)))))
+
+-- the most that a stretch may be from a limit: 32 * 86,400 + 10 ^ 11 + 1
+abbrev pub mostOff : ℕ
+mostOff = 100_002_764_801
+
+-- the most that a total may be
+abbrev pub mostTotal : ℕ
+mostTotal = 4_000_000_000_000_000_000
+
+-- the most that kind 5 may have: 64 flights of 32 stretches
+abbrev pub mostDwelling : ℕ
+mostDwelling = mostFlights * (mostVisits * mostOff)
+
+module _ {R : ℕ} (col : List ℕ) (flight : List Visit) (l : FlightLimits R flight) where
+  -- a stretch is at most 32 * 86,400 seconds
+  pub stretch-bound : Every (λ s. dwellOf s ≤ mostVisits * mostDwell) (stretches col flight)
+  stretch-bound =
+      every-turn
+      (λ s h. le-trans h (rw (stretches-sum col (λ v. v .dwell) flight) (few-bound mostVisits mostDwell flight _ (l .visits .high) (every-turn (λ v h. h .dwell .high) flight (l .visit)))))
+      (stretches col flight)
+      (each-at-most (stretches col flight) dwellOf)
+
+  -- a sum over the stretches of a flight, no term above B
+  pub flight-bound : (B : ℕ) (f : List Visit → ℕ) → ((s : List Visit) → dwellOf s ≤ mostVisits * mostDwell → f s ≤ B) → sum (stretches col flight) f ≤ mostVisits * B
+  flight-bound B f h =
+      few-bound mostVisits B (stretches col flight) f (le-trans (stretches-few col flight) (l .visits .high)) (every-turn h (stretches col flight) stretch-bound)
 
 module _ (P : Plan) (l : Limits P) where
   -- a sum over the regions, no term above B
@@ -42,6 +71,12 @@ module _ (P : Plan) (l : Limits P) where
   edges-bound p =
       few-bound mostEdges mostArea (P .edges) _ (l .edges)
       (every-turn (λ e h. cond-le (p e) (h .area .high) (omega arith)) (P .edges) (l .edge))
+
+  -- a sum over all stretches, no term above B
+  pub stretches-bound : (col : List ℕ) (B : ℕ) (f : List Visit → ℕ) → ((s : List Visit) → dwellOf s ≤ mostVisits * mostDwell → f s ≤ B) → overStretches P col f ≤ mostFlights * (mostVisits * B)
+  stretches-bound col B f h =
+      few-bound mostFlights (mostVisits * B) (P .flights) _ (l .flights)
+      (every-turn (λ flight k. flight-bound col flight k B f h) (P .flights) (l .flight))
 
   -- a weighted sum over the constraints, where none has more than B
   weighted-bound : (B : ℕ) (f : Constraint → ℕ) → ((k : Constraint) → k .limit ≤ mostLimit → f k ≤ B) → sum (P .constraints) (λ k. k .weight * f k) ≤ mostConstraints * (mostWeight * B)
@@ -101,25 +136,39 @@ module _ (P : Plan) (l : Limits P) where
       bounded-bound : bounded P col k ≤ 6432768000064
       bounded-bound = rw (bounded-all P col k) (sectors-bound 100512000001 _ reach-bound)
 
-      -- a constraint's violation is at most 6432768000064, what kind 4 may have
-      pub violation-bound : violation P col k ≤ 6432768000064
+      -- a stretch of a flight is at a distance of at most 32 * 86,400 + 10 ^ 11 + 1
+      off-bound : (s : List Visit) → dwellOf s ≤ mostVisits * mostDwell → offDwell k s ≤ mostOff
+      off-bound s d = omega (arith, distance-bound (k .relation) (dwellOf s) (k .limit))
+
+      -- kind 5 has at most 64 * 32 times that
+      pub dwelling-bound : dwelling P col k ≤ mostDwelling
+      unfolding dwelling
+      dwelling-bound = stretches-bound col mostOff (offDwell k) off-bound
+
+      -- and so has a region by it
+      dwelling-of-bound : (v : ℕ) → dwellingOf P col v k ≤ mostDwelling
+      unfolding dwellingOf
+      dwelling-of-bound v = stretches-bound col mostOff _ (λ s d. cond-le (visits v s) (off-bound s d) (omega arith))
+
+      -- a constraint's violation is at most what kind 5 may have
+      pub violation-bound : violation P col k ≤ mostDwelling
       unfolding violation
       violation-bound =
-          by-kind-bound (k .kind) (omega (arith, connected-bound)) (omega (arith, border-bound)) (omega (arith, deviation-bound)) bounded-bound
+          by-kind-bound (k .kind) (omega (arith, connected-bound)) (omega (arith, border-bound)) (omega (arith, deviation-bound)) (omega (arith, bounded-bound)) dwelling-bound
 
       -- what a region has by a constraint is at most as much
-      part-bound : (v c : ℕ) → partOf P col v c k ≤ 6432768000064
+      part-bound : (v c : ℕ) → partOf P col v c k ≤ mostDwelling
       unfolding partOf borderOf
       part-bound v c =
           by-kind-bound (k .kind) (omega (arith, ncc-bound c)) (omega (arith, edges-bound (leadsTo (λ w. not (eqb (at col w) (at col v))) v)))
-          (omega (arith, balance-bound c)) (omega (arith, reach-bound c))
+          (omega (arith, balance-bound c)) (omega (arith, reach-bound c)) (dwelling-of-bound v)
 
-    -- the total is at most 2 * 10 ^ 17
-    pub total-bound : total P col ≤ 200000000000000000
+    -- the total is at most 4 * 10 ^ 18
+    pub total-bound : total P col ≤ mostTotal
     unfolding total
-    total-bound = omega (arith, weighted-bound 6432768000064 (violation P col) violation-bound)
+    total-bound = omega (arith, weighted-bound mostDwelling (violation P col) violation-bound)
 
-    -- a region's violation is at most 2 * 10 ^ 17
-    pub region-bound : (v : ℕ) → regionViolation P col v ≤ 200000000000000000
+    -- a region's violation is at most 4 * 10 ^ 18
+    pub region-bound : (v : ℕ) → regionViolation P col v ≤ mostTotal
     unfolding regionViolation
-    region-bound v = omega (arith, weighted-bound 6432768000064 (partOf P col v (at col v)) (λ k h. part-bound k h v (at col v)))
+    region-bound v = omega (arith, weighted-bound mostDwelling (partOf P col v (at col v)) (λ k h. part-bound k h v (at col v)))

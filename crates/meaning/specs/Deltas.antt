@@ -18,7 +18,7 @@ use Rattle.terms.specs.declared.Move.the-variants.{Recolour, Exchange, Ask, Ref
 use Rattle.meaning.specs.Plan.{Plan, Limits}
 use Rattle.meaning.specs.Joined.{labels}
 use Rattle.meaning.specs.Moves.{recolour, swap, next, delta, differing, relabelled, row, cells}
-use Rattle.meaning.specs.Bounds.{count-bound, total-bound, region-bound}
+use Rattle.meaning.specs.Bounds.{mostTotal, count-bound, total-bound, region-bound}
 
 -- of either sign, the difference of two numbers that are at most B is no larger
 sides-mag : (t : Bool) {a b B : ℕ} → a ≤ B → b ≤ B → mag (cond t (negsuc (b - suc a)) (pos (a - b))) ≤ B
@@ -30,8 +30,8 @@ pub sub-mag : (a b : ℕ) {B : ℕ} → a ≤ B → b ≤ B → mag (pos a -ℤ 
 sub-mag a zero h k = omega arith
 sub-mag a (suc b) h k = sides-mag (ltb a (suc b)) h k
 
--- what lies between -(2 * 10 ^ 17) - 1 and 2 * 10 ^ 17 is exact in an i64
-fits : {z : ℤ} → mag z ≤ 200000000000000000 → SFits w64 z
+-- what lies between -(4 * 10 ^ 18) - 1 and 4 * 10 ^ 18 is exact in an i64
+fits : {z : ℤ} → mag z ≤ mostTotal → SFits w64 z
 fits h = record { sfits = omega arith }
 
 module _ (P : Plan) (l : Limits P) (col : List ℕ) where
@@ -40,8 +40,8 @@ module _ (P : Plan) (l : Limits P) (col : List ℕ) where
   unfolding relabelled differing
   relabelled-bound after = count-bound P l (λ u. not (eqb (at (labels (P .edges) col) u) (at (labels (P .edges) after) u)))
 
-  -- a delta lies between -(2 * 10 ^ 17) - 1 and 2 * 10 ^ 17
-  delta-ends : (m : Move) → mag (delta P col m) ≤ 200000000000000000
+  -- a delta lies between -(4 * 10 ^ 18) - 1 and 4 * 10 ^ 18
+  delta-ends : (m : Move) → mag (delta P col m) ≤ mostTotal
   unfolding delta
   delta-ends (Recolour make v c) = sub-mag _ _ (total-bound P l (recolour col (v .0) (c .0))) (total-bound P l col)
   delta-ends (Exchange make a b) = sub-mag _ _ (total-bound P l (swap col (a .0) (b .0))) (total-bound P l col)

@@ -3,6 +3,7 @@
 use Prim.Native.Nat.{ℕ, _+_, _*_, _≤_}
 use native.Mathlib.Nat.{mul-zero, mul-le-mul-right}
 use native.Mathlib.Omega.{arith}
+use native.Mathlib.Decide.{ℕ-discrete}
 use mathlib.Core.Path.{_≡_, refl, ap, _∙_}
 use mathlib.Core.List.{List}
 use mathlib.Core.Logic.{_↔_, Iff·trans}
@@ -13,32 +14,46 @@ use Rattle.lists.specs.SumLaws.{zero-each, every-all, every-turn}
 use Rattle.terms.specs.Distance.{stands}
 use Rattle.terms.specs.DistanceLaws.{distance-zero}
 use Rattle.meaning.specs.Plan.{Constraint, Plan}
-use Rattle.meaning.specs.Kinds.{nccAll, border, counts, loads, deviation, connected, bounded, byKind, violation, holds, total}
+use Rattle.meaning.specs.Stretches.{stretches, dwellOf}
+use Rattle.meaning.specs.Kinds.{nccAll, border, counts, loads, deviation, connected, bounded, dwelling, byKind, violation, holds, total}
 
 -- where each term is 0 exactly when Q holds of its place, in the list or not, the sum is 0 exactly when Q holds of all
 zero-all : {A : Type 0} (Q : A → Type 0) (xs : List A) (f : A → ℕ) → ((x : A) → (f x ≡ 0 ↔ Q x)) → sum xs f ≡ 0 ↔ Every Q xs
 zero-all Q xs f h = zero-each Q xs f (every-all (λ x. f x ≡ 0 ↔ Q x) h xs)
 
-module _ {kind : ℕ} (a b c d : ℕ) where
+module _ {kind : ℕ} (a b c d e : ℕ) where
   -- what is due to kind 1
-  pub by-kind-1 : kind ≡ 1 → byKind kind a b c d ≡ a
+  pub by-kind-1 : kind ≡ 1 → byKind kind a b c d e ≡ a
   unfolding byKind
-  by-kind-1 e = rw e
+  by-kind-1 p = rw p
 
   -- what is due to kind 2
-  pub by-kind-2 : kind ≡ 2 → byKind kind a b c d ≡ b
+  pub by-kind-2 : kind ≡ 2 → byKind kind a b c d e ≡ b
   unfolding byKind
-  by-kind-2 e = rw e
+  by-kind-2 p = rw p
 
   -- what is due to kind 3
-  pub by-kind-3 : kind ≡ 3 → byKind kind a b c d ≡ c
+  pub by-kind-3 : kind ≡ 3 → byKind kind a b c d e ≡ c
   unfolding byKind
-  by-kind-3 e = rw e
+  by-kind-3 p = rw p
 
   -- what is due to kind 4
-  pub by-kind-4 : kind ≡ 4 → byKind kind a b c d ≡ d
+  pub by-kind-4 : kind ≡ 4 → byKind kind a b c d e ≡ d
   unfolding byKind
-  by-kind-4 e = rw e
+  by-kind-4 p = rw p
+
+  -- what is due to kind 5
+  pub by-kind-5 : kind ≡ 5 → byKind kind a b c d e ≡ e
+  unfolding byKind
+  by-kind-5 p = rw p
+
+-- what is due to kinds 4 and 5 alike
+pub by-kind-late : {kind : ℕ} (a b c d : ℕ) → 4 ≤ kind → kind ≤ 5 → byKind kind a b c d d ≡ d
+by-kind-late {kind} a b c d low high = go (ℕ-discrete kind 4)
+  where
+    go : Dec (kind ≡ 4) → byKind kind a b c d d ≡ d
+    go (yes e) = by-kind-4 a b c d d e
+    go (no ne) = by-kind-5 a b c d d (omega arith)
 
 -- a sum of two is 0 exactly when both are
 both-zero : {x y : ℕ} {A B : Type 0} → (x ≡ 0 ↔ A) → (y ≡ 0 ↔ B) → x + y ≡ 0 ↔ A × B
@@ -78,20 +93,27 @@ module _ (P : Plan) (col : List ℕ) where
     pub connected-holds : k .kind ≡ 1 → holds P col k ≡ true ↔ (stands (k .relation) (nccAll P col) (k .limit) ≡ true) × Every (λ n. n ≤ 1) (counts P col)
     unfolding violation connected
     connected-holds e =
-        Iff·trans (holds-at (by-kind-1 _ _ _ _ e))
+        Iff·trans (holds-at (by-kind-1 _ _ _ _ _ e))
         (both-zero (failed-zero (stands (k .relation) (nccAll P col) (k .limit))) (zero-all _ (counts P col) _ (λ n. omega arith)))
 
     -- kind 2 holds exactly when the border is at most the limit
     pub border-holds : k .kind ≡ 2 → holds P col k ≡ true ↔ border P col ≤ k .limit
     unfolding violation
-    border-holds e = Iff·trans (holds-at (by-kind-2 _ _ _ _ e)) (omega arith)
+    border-holds e = Iff·trans (holds-at (by-kind-2 _ _ _ _ _ e)) (omega arith)
 
     -- kind 3 holds exactly when the deviation is at most the limit
     pub balanced-holds : k .kind ≡ 3 → holds P col k ≡ true ↔ deviation P col ≤ k .limit
     unfolding violation
-    balanced-holds e = Iff·trans (holds-at (by-kind-3 _ _ _ _ e)) (omega arith)
+    balanced-holds e = Iff·trans (holds-at (by-kind-3 _ _ _ _ _ e)) (omega arith)
 
     -- kind 4 holds exactly when each sector's workload stands in the relation to the limit
     pub bounded-holds : k .kind ≡ 4 → holds P col k ≡ true ↔ Every (λ x. stands (k .relation) x (k .limit) ≡ true) (loads P col)
     unfolding violation bounded
-    bounded-holds e = Iff·trans (holds-at (by-kind-4 _ _ _ _ e)) (zero-all _ (loads P col) _ (λ x. distance-zero (k .relation) x (k .limit)))
+    bounded-holds e = Iff·trans (holds-at (by-kind-4 _ _ _ _ _ e)) (zero-all _ (loads P col) _ (λ x. distance-zero (k .relation) x (k .limit)))
+
+    -- kind 5 holds exactly when the summed dwell of each stretch stands in the relation to the limit
+    pub dwelling-holds : k .kind ≡ 5 → holds P col k ≡ true ↔ Every (λ flight. Every (λ s. stands (k .relation) (dwellOf s) (k .limit) ≡ true) (stretches col flight)) (P .flights)
+    unfolding violation dwelling
+    dwelling-holds e =
+        Iff·trans (holds-at (by-kind-5 _ _ _ _ _ e))
+        (zero-all _ (P .flights) _ (λ flight. zero-all _ (stretches col flight) _ (λ s. distance-zero (k .relation) (dwellOf s) (k .limit))))

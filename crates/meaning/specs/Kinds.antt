@@ -1,4 +1,4 @@
--- Document 01, "Meaning of the four kinds": the numbers of a colouring, the violation of each kind, the total, and a region's violation.
+-- Document 01, "Meaning of the four kinds", and document 02, C-11: the numbers of a colouring, the violation of each kind, the total, and a region's violation.
 -- A difference `a - b` is 0 where b is larger, so that document 01's max(a - b, 0) is `a - b`.
 -- Assumes nothing.
 use Prim.Native.Nat.{ℕ, _+_, _-_, _*_}
@@ -7,8 +7,9 @@ use mathlib.Core.Bool.{Bool, cond, not, _&&_, _||_}
 use lib.Dec.{eqb}
 use Rattle.lists.specs.Sums.{at, bit, sum, count}
 use Rattle.terms.specs.Distance.{gap, stands, distance}
-use Rattle.meaning.specs.Plan.{Edge, Constraint, Plan, regions, sectors}
+use Rattle.meaning.specs.Plan.{Edge, Visit, Constraint, Plan, regions, sectors}
 use Rattle.meaning.specs.Joined.{labels, leads}
+use Rattle.meaning.specs.Stretches.{stretches, dwellOf, visits}
 
 -- NCC(c): the components of sector c
 unfoldable pub ncc : Plan → List ℕ → ℕ → ℕ
@@ -62,15 +63,31 @@ connected P col k = bit (not (stands (k .relation) (nccAll P col) (k .limit))) +
 unfoldable pub bounded : Plan → List ℕ → Constraint → ℕ
 bounded P col k = sum (loads P col) (λ x. distance (k .relation) x (k .limit))
 
--- what is due to each of the four kinds
-unfoldable pub byKind : ℕ → ℕ → ℕ → ℕ → ℕ → ℕ
-byKind kind connected border balanced bounded =
-    cond (eqb kind 1) connected (cond (eqb kind 2) border (cond (eqb kind 3) balanced (cond (eqb kind 4) bounded 0)))
+-- the sum of f over all stretches of all flights
+abbrev pub overStretches : Plan → List ℕ → (List Visit → ℕ) → ℕ
+overStretches P col f = sum (P .flights) (λ flight. sum (stretches col flight) f)
+
+-- how far the summed dwell of a stretch is from standing in the constraint's relation to its limit
+abbrev pub offDwell : Constraint → List Visit → ℕ
+offDwell k s = distance (k .relation) (dwellOf s) (k .limit)
+
+-- kind 5, dwell time
+unfoldable pub dwelling : Plan → List ℕ → Constraint → ℕ
+dwelling P col k = overStretches P col (offDwell k)
+
+-- what is due to each of the five kinds
+unfoldable pub byKind : ℕ → ℕ → ℕ → ℕ → ℕ → ℕ → ℕ
+byKind kind connected border balanced bounded dwelling =
+    cond (eqb kind 1) connected
+    (cond (eqb kind 2) border
+    (cond (eqb kind 3) balanced
+    (cond (eqb kind 4) bounded
+    (cond (eqb kind 5) dwelling 0))))
 
 -- the violation of a constraint
 unfoldable pub violation : Plan → List ℕ → Constraint → ℕ
 violation P col k =
-    byKind (k .kind) (connected P col k) (border P col - k .limit) (deviation P col - k .limit) (bounded P col k)
+    byKind (k .kind) (connected P col k) (border P col - k .limit) (deviation P col - k .limit) (bounded P col k) (dwelling P col k)
 
 -- a constraint holds exactly when its violation is 0
 unfoldable pub holds : Plan → List ℕ → Constraint → Bool
@@ -88,10 +105,14 @@ leadsTo test v e = (eqb (e .a) v && test (e .b)) || (eqb (e .b) v && test (e .a)
 unfoldable pub borderOf : Plan → List ℕ → ℕ → ℕ
 borderOf P col v = areaOf (P .edges) (leadsTo (λ w. not (eqb (at col w) (at col v))) v)
 
+-- how far the stretches that visit v are from the limit, each counted once
+unfoldable pub dwellingOf : Plan → List ℕ → ℕ → Constraint → ℕ
+dwellingOf P col v k = overStretches P col (λ s. cond (visits v s) (offDwell k s) 0)
+
 -- what region v, in sector c, has by the kind of a constraint
 unfoldable pub partOf : Plan → List ℕ → ℕ → ℕ → Constraint → ℕ
 partOf P col v c k =
-    byKind (k .kind) (ncc P col c - 1) (borderOf P col v) (offBalance P (load P col c)) (distance (k .relation) (load P col c) (k .limit))
+    byKind (k .kind) (ncc P col c - 1) (borderOf P col v) (offBalance P (load P col c)) (distance (k .relation) (load P col c) (k .limit)) (dwellingOf P col v k)
 
 -- a region's violation
 unfoldable pub regionViolation : Plan → List ℕ → ℕ → ℕ

@@ -1,5 +1,7 @@
 pub mod Plan
+pub mod Flights
 pub mod Joined
+pub mod Stretches
 pub mod Kinds
 pub mod Moves
 pub mod Paths
@@ -7,6 +9,10 @@ pub mod Labels
 pub mod Components
 pub mod Holds
 pub mod Bounds
+pub mod StretchLaws
+pub mod Stretched
+pub mod Prices
+pub mod PriceLaws
 pub mod MoveLaws
 pub mod Deltas
 pub mod Faces

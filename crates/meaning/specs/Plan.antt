@@ -1,9 +1,9 @@
--- Document 01, "The plan": a plan and its parts, from the flat lists of numbers.
+-- Document 01, "The plan", and document 02, C-11: a plan and its parts, from the flat lists of numbers.
 -- Assumes nothing.
 use Prim.Native.Nat.{ℕ, _+_, _*_, _/_, _≤_, _<_}
 use mathlib.Core.Path.{_≡_}
-use mathlib.Core.List.{List}
-use lib.ListN.{length, getD}
+use mathlib.Core.List.{List, [], _∷_}
+use lib.ListN.{length, getD, take, drop}
 use Rattle.lists.specs.Sums.{In, at, upTo, listOf, Every}
 
 -- two regions that share a face, and the area of the face
@@ -12,6 +12,11 @@ pub record Edge : Type 0 where
   pub b : ℕ
   pub area : ℕ
 
+-- a region that a flight visits, and for how many seconds
+pub record Visit : Type 0 where
+  pub region : ℕ
+  pub dwell : ℕ
+
 -- what is asked of a plan, and how much it weighs
 pub record Constraint : Type 0 where
   pub kind : ℕ
@@ -19,17 +24,21 @@ pub record Constraint : Type 0 where
   pub limit : ℕ
   pub weight : ℕ
 
--- a plan but for its colouring: how many regions and sectors there are, each region's workload, the edges and the constraints
+-- a plan but for its colouring: how many regions and sectors there are, each region's workload, the edges, the visits of each flight in order, and the constraints
 pub record Plan : Type 0 where
   pub R : ℕ
   pub S : ℕ
   pub workloads : List ℕ
   pub edges : List Edge
+  pub flights : List (List Visit)
   pub constraints : List Constraint
 
--- how many numbers of the flat lists an edge and a constraint take
+-- how many numbers of the flat lists an edge, a visit and a constraint take
 abbrev pub edgeLength : ℕ
 edgeLength = 3
+
+abbrev pub visitLength : ℕ
+visitLength = 2
 
 abbrev pub constraintLength : ℕ
 constraintLength = 4
@@ -37,6 +46,10 @@ constraintLength = 4
 -- edge k, from 0, of the flat list
 abbrev pub edgeAt : List ℕ → ℕ → Edge
 edgeAt xs k = record { a = getD xs (edgeLength * k) 0; b = getD xs (edgeLength * k + 1) 0; area = getD xs (edgeLength * k + 2) 0 }
+
+-- visit k, from 0, of the flat list
+abbrev pub visitAt : List ℕ → ℕ → Visit
+visitAt xs k = record { region = getD xs (visitLength * k) 0; dwell = getD xs (visitLength * k + 1) 0 }
 
 -- constraint k, from 0, of the flat list
 abbrev pub constraintAt : List ℕ → ℕ → Constraint
@@ -52,14 +65,30 @@ constraintAt xs k =
 unfoldable pub edgesOf : List ℕ → List Edge
 edgesOf xs = listOf (length xs / edgeLength) (edgeAt xs)
 
+-- the visits of the flat list, in its order
+unfoldable pub visitsOf : List ℕ → List Visit
+visitsOf xs = listOf (length xs / visitLength) (visitAt xs)
+
+-- the flights of the flat lists: each takes from the visits as many as its count says
+unfoldable pub flightsOf : List ℕ → List ℕ → List (List Visit)
+flightsOf [] visits = []
+flightsOf (n ∷ counts) visits = visitsOf (take (visitLength * n) visits) ∷ flightsOf counts (drop (visitLength * n) visits)
+
 -- the constraints of the flat list, in its order: a constraint is known by its place in it
 unfoldable pub constraintsOf : List ℕ → List Constraint
 constraintsOf xs = listOf (length xs / constraintLength) (constraintAt xs)
 
 -- the plan of the flat lists
-abbrev pub planOf : ℕ → ℕ → List ℕ → List ℕ → List ℕ → Plan
-planOf R S workloads edges constraints =
-    record { R = R; S = S; workloads = workloads; edges = edgesOf edges; constraints = constraintsOf constraints }
+abbrev pub planOf : ℕ → ℕ → List ℕ → List ℕ → List ℕ → List ℕ → List ℕ → Plan
+planOf R S workloads edges counts visits constraints =
+    record {
+      R = R;
+      S = S;
+      workloads = workloads;
+      edges = edgesOf edges;
+      flights = flightsOf counts visits;
+      constraints = constraintsOf constraints;
+    }
 
 -- regions are numbered 1..R
 abbrev pub regions : Plan → List ℕ
@@ -86,6 +115,20 @@ mostEdges = 2_048
 abbrev pub mostArea : ℕ
 mostArea = 1_000_000
 
+abbrev pub mostFlights : ℕ
+mostFlights = 64
+
+-- of one flight
+abbrev pub mostVisits : ℕ
+mostVisits = 32
+
+abbrev pub mostDwell : ℕ
+mostDwell = 86_400
+
+-- how many kinds of constraints there are
+abbrev pub mostKind : ℕ
+mostKind = 5
+
 abbrev pub mostConstraints : ℕ
 mostConstraints = 16
 
@@ -105,8 +148,16 @@ pub record EdgeLimits (R : ℕ) (e : Edge) : Type 0 where
   pub high : e .b ≤ R
   pub area : In mostArea (e .area)
 
+pub record VisitLimits (R : ℕ) (v : Visit) : Type 0 where
+  pub region : In R (v .region)
+  pub dwell : In mostDwell (v .dwell)
+
+pub record FlightLimits (R : ℕ) (flight : List Visit) : Type 0 where
+  pub visits : In mostVisits (length flight)
+  pub visit : Every (VisitLimits R) flight
+
 pub record ConstraintLimits (k : Constraint) : Type 0 where
-  pub kind : In 4 (k .kind)
+  pub kind : In mostKind (k .kind)
   pub relation : In 6 (k .relation)
   pub limit : k .limit ≤ mostLimit
   pub weight : In mostWeight (k .weight)
@@ -119,6 +170,8 @@ pub record Limits (P : Plan) : Type 0 where
   pub workload : Every (λ w. w ≤ mostWorkload) (P .workloads)
   pub edges : length (P .edges) ≤ mostEdges
   pub edge : Every (EdgeLimits (P .R)) (P .edges)
+  pub flights : length (P .flights) ≤ mostFlights
+  pub flight : Every (FlightLimits (P .R)) (P .flights)
   pub constraints : length (P .constraints) ≤ mostConstraints
   pub constraint : Every ConstraintLimits (P .constraints)
 

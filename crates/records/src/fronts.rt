@@ -29,13 +29,15 @@ pub fn judge_front(
     sectors: u64,
     workloads: &[u64],
     edges: &[u64],
+    counts: &[u64],
+    visits: &[u64],
     colouring: &mut [u64],
     moves: &[u64],
     rows: &mut [i64],
     verdicts: &mut [u64],
     work: &mut [u64],
 ) -> Answer
-    ensures { λ r. ⌜ call.Promise (call.input regions sectors (now (workloads .entry)) (now (edges .entry)) (front count numbers) (now (colouring .entry)) (now (moves .entry)) (now (rows .entry)) (now (verdicts .entry)) (now (work .entry))) (call.left r (now (colouring .exit)) (now (rows .exit)) (now (verdicts .exit)) (now (work .exit))) ⌝ }
+    ensures { λ r. ⌜ call.Promise (call.input regions sectors (now (workloads .entry)) (now (edges .entry)) (now (counts .entry)) (now (visits .entry)) (front count numbers) (now (colouring .entry)) (now (moves .entry)) (now (rows .entry)) (now (verdicts .entry)) (now (work .entry))) (call.left r (now (colouring .exit)) (now (rows .exit)) (now (verdicts .exit)) (now (work .exit))) ⌝ }
 {
     let copied = copied_of(count);
     call::judge(
@@ -43,6 +45,8 @@ pub fn judge_front(
         sectors,
         workloads,
         edges,
+        counts,
+        visits,
         &numbers[..CONSTRAINT_LENGTH * copied],
         colouring,
         moves,

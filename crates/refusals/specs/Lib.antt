@@ -2,3 +2,4 @@ pub mod Table
 pub mod Turn
 pub mod Passed
 pub mod Valid
+pub mod FewerKinds

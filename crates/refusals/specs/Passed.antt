@@ -4,13 +4,13 @@ use Prim.Native.Nat.{ℕ, zero, suc, _/_, _%_, _≤_, _<_}
 use native.Mathlib.Nat.{zero-add}
 use native.Mathlib.Omega.{arith}
 use mathlib.Core.Path.{_≡_, refl}
-use mathlib.Core.Bool.{Bool, true, false, not, _&&_, true≢false}
+use mathlib.Core.Bool.{Bool, true, false, cond, not, _&&_, true≢false}
 use mathlib.Core.List.{List, [], _∷_, _++_}
 use borrow.Author.Tests.{eqb-true, not-false}
 use lib.Dec.{eqb, leb, T, leb→le, eqb→eq}
 use lib.ListN.{length}
 use Rattle.lists.specs.Sums.{In, from, Every}
-use Rattle.lists.specs.SumLaws.{from-every}
+use Rattle.lists.specs.SumLaws.{every-from, from-every}
 use Rattle.terms.specs.Plan.{within}
 use Rattle.refusals.specs.Table.{Row, refused, none, offFrom, firstOff, refusal, records}
 use Rattle.refusals.specs.Turn.{coded, coded-first, coded-rest}
@@ -128,3 +128,15 @@ module _ (right : ℕ → Bool) where
   pub passed-each : (n : ℕ) → not (eqb (firstOff n right) 0) ≡ false → (k : ℕ) → k < n → T (right k)
   passed-each n e k h =
       rw (← zero-add k) (from-every (λ j. T (right j)) 0 n (off-none 0 n (eqb-true (firstOff n right) 0 (not-false _ e))) k h)
+
+  off-right : (k n : ℕ) → Every (λ j. T (right j)) (from k n) → offFrom k n right ≡ 0
+  unfolding offFrom
+  off-right k zero e = refl
+  off-right k (suc n) e = go (right k) (e .0) (off-right (suc k) n (e .1))
+    where
+      go : (b : Bool) → T b → offFrom (suc k) n right ≡ 0 → cond b (offFrom (suc k) n right) (suc k) ≡ 0
+      go true t z = z
+
+  -- where each item is right, the row is not given
+  pub each-passed : (n : ℕ) → ((k : ℕ) → k < n → T (right k)) → not (eqb (firstOff n right) 0) ≡ false
+  each-passed n h = rw (off-right 0 n (every-from (λ j. T (right j)) 0 n (λ k lo hi. h k (omega arith))))

@@ -1,12 +1,13 @@
--- Document 01, "The call and what it refuses": the refusals in the order in which they are checked.
+-- Document 01, "The call and what it refuses", and document 02, C-11: the refusals in the order in which they are checked.
 -- Assumes nothing.
 use Prim.Native.Nat.{ℕ, zero, suc, _+_, _-_, _*_, _/_, _%_}
-use mathlib.Core.Bool.{Bool, cond, not, _&&_, _||_}
+use mathlib.Core.Bool.{Bool, true, cond, not, _&&_, _||_}
 use mathlib.Core.List.{List, [], _∷_, _++_}
 use lib.Dec.{eqb, leb, ltb}
 use lib.ListN.{length, getD}
+use Rattle.lists.specs.Sums.{sum}
 use Rattle.terms.specs.Plan.{within}
-use Rattle.meaning.specs.Plan.{Edge, edgeLength, constraintLength, edgeAt, constraintAt, mostRegions, mostSectors, mostWorkload, mostEdges, mostArea, mostConstraints, mostLimit, mostWeight, mostMoves}
+use Rattle.meaning.specs.Plan.{Edge, Visit, edgeLength, visitLength, constraintLength, edgeAt, flightsOf, constraintAt, mostRegions, mostSectors, mostWorkload, mostEdges, mostArea, mostFlights, mostVisits, mostDwell, mostKind, mostConstraints, mostLimit, mostWeight, mostMoves}
 use Rattle.meaning.specs.Moves.{moveLength, rowLength, verdictLength}
 use Rattle.refusals.specs.declared.Refusal.{Refusal}
 
@@ -62,14 +63,26 @@ edgeRight R edges k =
     let e = edgeAt edges k in
     leb 1 (e .a) && ltb (e .a) (e .b) && leb (e .b) R && within 1 (e .area) mostArea && (eqb k 0 || above (edgeAt edges (k - 1)) e)
 
--- kinds 1 and 4 take any relation, kinds 2 and 3 relation 1 only
-abbrev pub takes : ℕ → ℕ → Bool
-takes kind relation = within 1 relation 6 && (eqb kind 1 || eqb kind 4 || eqb relation 1)
+abbrev pub countRight : List ℕ → ℕ → Bool
+countRight counts k = within 1 (getD counts k 0) mostVisits
 
-unfoldable pub constraintRight : List ℕ → ℕ → Bool
-constraintRight constraints k =
+-- a flight of which each visit is to a region, and of 1 to 86,400 seconds
+unfoldable pub visitsRight : ℕ → List Visit → Bool
+visitsRight R [] = true
+visitsRight R (v ∷ vs) = within 1 (v .region) R && within 1 (v .dwell) mostDwell && visitsRight R vs
+
+abbrev pub flightRight : ℕ → List ℕ → List ℕ → ℕ → Bool
+flightRight R counts visits k = visitsRight R (getD (flightsOf counts visits) k [])
+
+-- kinds 1, 4 and 5 take any relation, kinds 2 and 3 relation 1 only
+abbrev pub takes : ℕ → ℕ → Bool
+takes kind relation = within 1 relation 6 && (eqb kind 1 || leb 4 kind || eqb relation 1)
+
+-- of the kinds 1 to `kinds`
+unfoldable pub constraintRight : ℕ → List ℕ → ℕ → Bool
+constraintRight kinds constraints k =
     let c = constraintAt constraints k in
-    within 1 (c .kind) 4 && takes (c .kind) (c .relation) && leb (c .limit) mostLimit && within 1 (c .weight) mostWeight
+    within 1 (c .kind) kinds && takes (c .kind) (c .relation) && leb (c .limit) mostLimit && within 1 (c .weight) mostWeight
 
 abbrev pub sectorRight : ℕ → List ℕ → ℕ → Bool
 sectorRight S colouring k = within 1 (getD colouring k 0) S
@@ -80,17 +93,21 @@ records width low high xs = eqb (length xs % width) 0 && within low (length xs /
 
 -- ---- the table
 
--- codes 1 to 8, on a plan and its colouring
-unfoldable pub planTable : ℕ → ℕ → List ℕ → List ℕ → List ℕ → List ℕ → List Row
-planTable R S workloads edges constraints colouring =
+-- codes 1 to 8 and, after 5, code 13, on a plan with constraints of the kinds 1 to `kinds`, and on its colouring
+unfoldable pub planTable : ℕ → ℕ → ℕ → List ℕ → List ℕ → List ℕ → List ℕ → List ℕ → List ℕ → List Row
+planTable kinds R S workloads edges counts visits constraints colouring =
     whole 1 (within 1 R mostRegions)
     ∷ whole 2 (within 1 S mostSectors)
     ∷ whole 3 (eqb (length workloads) R)
     ∷ each 3 (length workloads) (workloadRight workloads)
     ∷ whole 4 (records edgeLength 0 mostEdges edges)
     ∷ each 5 (length edges / edgeLength) (edgeRight R edges)
+    ∷ whole 13 (leb (length counts) mostFlights)
+    ∷ each 13 (length counts) (countRight counts)
+    ∷ whole 13 (eqb (length visits) (visitLength * sum counts (λ n. n)))
+    ∷ each 13 (length counts) (flightRight R counts visits)
     ∷ whole 6 (records constraintLength 1 mostConstraints constraints)
-    ∷ each 7 (length constraints / constraintLength) (constraintRight constraints)
+    ∷ each 7 (length constraints / constraintLength) (constraintRight kinds constraints)
     ∷ whole 8 (eqb (length colouring) R)
     ∷ each 8 (length colouring) (sectorRight S colouring)
     ∷ []
@@ -110,6 +127,8 @@ pub record Given : Type 0 where
   pub S : ℕ
   pub workloads : List ℕ
   pub edges : List ℕ
+  pub counts : List ℕ
+  pub visits : List ℕ
   pub constraints : List ℕ
   pub colouring : List ℕ
   pub moves : List ℕ
@@ -118,20 +137,21 @@ pub record Given : Type 0 where
   pub work : ℕ
 
 -- the same of a call's parameters, in their order
-abbrev pub given : ℕ → ℕ → List ℕ → List ℕ → List ℕ → List ℕ → List ℕ → ℕ → ℕ → ℕ → Given
-given R S workloads edges constraints colouring moves rows verdicts work =
-    record { R = R; S = S; workloads = workloads; edges = edges; constraints = constraints; colouring = colouring; moves = moves; rows = rows; verdicts = verdicts; work = work }
+abbrev pub given : ℕ → ℕ → List ℕ → List ℕ → List ℕ → List ℕ → List ℕ → List ℕ → List ℕ → ℕ → ℕ → ℕ → Given
+given R S workloads edges counts visits constraints colouring moves rows verdicts work =
+    record { R = R; S = S; workloads = workloads; edges = edges; counts = counts; visits = visits; constraints = constraints; colouring = colouring; moves = moves; rows = rows; verdicts = verdicts; work = work }
 
--- codes 1 to 12
+-- codes 1 to 13
 unfoldable pub callTable : Given → List Row
 callTable g =
-    planTable (g .R) (g .S) (g .workloads) (g .edges) (g .constraints) (g .colouring)
+    planTable mostKind (g .R) (g .S) (g .workloads) (g .edges) (g .counts) (g .visits) (g .constraints) (g .colouring)
     ++ roomTable (g .R) (g .S) (g .constraints) (g .moves) (g .rows) (g .verdicts) (g .work)
 
 -- what the call answers to bad input
 unfoldable pub callRefusal : Given → Refusal
 callRefusal g = refusal (callTable g)
 
--- what writing a plan down answers to bad input
-unfoldable pub planRefusal : ℕ → ℕ → List ℕ → List ℕ → List ℕ → List ℕ → Refusal
-planRefusal R S workloads edges constraints colouring = refusal (planTable R S workloads edges constraints colouring)
+-- what is refused of a plan with constraints of the kinds 1 to `kinds`, and of its colouring
+unfoldable pub planRefusal : ℕ → ℕ → ℕ → List ℕ → List ℕ → List ℕ → List ℕ → List ℕ → List ℕ → Refusal
+planRefusal kinds R S workloads edges counts visits constraints colouring =
+    refusal (planTable kinds R S workloads edges counts visits constraints colouring)

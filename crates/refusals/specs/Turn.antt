@@ -6,6 +6,7 @@ use mathlib.Core.Bool.{Bool, true, false, cond, not, _&&_}
 use mathlib.Core.List.{List, [], _∷_, _++_}
 use lib.Dec.{eqb, T}
 use borrow.Author.Tests.{ne-eqb, eqb-false}
+use Rattle.meaning.specs.Plan.{mostKind}
 use Rattle.refusals.specs.declared.Refusal.{Refusal}
 use Rattle.refusals.specs.Table.{Row, refused, none, refusal, planTable, roomTable, Given, callTable, callRefusal, planRefusal}
 
@@ -81,16 +82,17 @@ in-turn-more rows more t u =
 -- ---- the two tables
 
 -- the rows on a plan, in turn from none, give its refusal
-pub plan-in-turn : (R S : ℕ) (workloads edges constraints colouring : List ℕ) → inTurn none (planTable R S workloads edges constraints colouring) ≡ planRefusal R S workloads edges constraints colouring
+pub plan-in-turn : (kinds R S : ℕ) (workloads edges counts visits constraints colouring : List ℕ) → inTurn none (planTable kinds R S workloads edges counts visits constraints colouring) ≡ planRefusal kinds R S workloads edges counts visits constraints colouring
 unfolding planTable planRefusal
-plan-in-turn R S workloads edges constraints colouring = in-turn (planTable R S workloads edges constraints colouring) tt
+plan-in-turn kinds R S workloads edges counts visits constraints colouring =
+    in-turn (planTable kinds R S workloads edges counts visits constraints colouring) tt
 
 -- the rows on the moves and the room, in turn from the refusal of the plan, give the call's
-pub call-in-turn : (g : Given) → inTurn (planRefusal (g .R) (g .S) (g .workloads) (g .edges) (g .constraints) (g .colouring)) (roomTable (g .R) (g .S) (g .constraints) (g .moves) (g .rows) (g .verdicts) (g .work)) ≡ callRefusal g
+pub call-in-turn : (g : Given) → inTurn (planRefusal mostKind (g .R) (g .S) (g .workloads) (g .edges) (g .counts) (g .visits) (g .constraints) (g .colouring)) (roomTable (g .R) (g .S) (g .constraints) (g .moves) (g .rows) (g .verdicts) (g .work)) ≡ callRefusal g
 unfolding planTable planRefusal roomTable callTable callRefusal
 call-in-turn g =
     in-turn-more
-    (planTable (g .R) (g .S) (g .workloads) (g .edges) (g .constraints) (g .colouring))
+    (planTable mostKind (g .R) (g .S) (g .workloads) (g .edges) (g .counts) (g .visits) (g .constraints) (g .colouring))
     (roomTable (g .R) (g .S) (g .constraints) (g .moves) (g .rows) (g .verdicts) (g .work))
     tt
     tt

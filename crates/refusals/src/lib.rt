@@ -1,14 +1,18 @@
-// What is refused, and at which place: the rows of document 01's table, taken in turn.
+// What is refused, and at which place: the rows of the documents' table, taken in turn.
 ghost use mathlib.Core.Path.{_≡_};
+ghost use mathlib.Core.List.{[], _∷_};
 ghost use Prim.Native.Nat.{_+_, _*_, _/_};
 ghost use lib.Dec.{eqb, leb};
 ghost use lib.ListN.{length};
-ghost use Rattle.meaning.specs.Plan.{edgeLength, constraintLength, mostEdges, mostConstraints};
-ghost use Rattle.refusals.specs.Table.{whole, item, each, records, workloadRight, edgeRight, constraintRight, sectorRight, given, planRefusal, callRefusal};
-ghost use Rattle.refusals.specs.Turn.{after};
+ghost use Rattle.lists.specs.Sums.{sum};
+ghost use Rattle.lists.specs.Few.{Few};
+ghost use Rattle.meaning.specs.Plan.{edgeLength, visitLength, constraintLength, mostEdges, mostFlights, mostVisits, mostConstraints};
+ghost use Rattle.refusals.specs.Table.{whole, item, each, records, workloadRight, edgeRight, countRight, flightRight, constraintRight, sectorRight, given, planRefusal, callRefusal};
+ghost use Rattle.refusals.specs.Turn.{after, inTurn};
 
 pub mod scans;
 
+use lists::sum_of;
 use terms::in_limits;
 use terms::limits;
 
@@ -73,9 +77,44 @@ impl Refusal {
         f.or_at(5, scans::first_bad_edge(regions, edges))
     }
 
-    // What is refused so far, or else code 6 for the list, or code 7 at a constraint of it.
-    fn or_constraints(self, constraints: &[u64]) -> Refusal
-        ensures { λ f. let constraints = now (constraints .entry) in ⌜ f ≡ after (after self (whole 6 (records constraintLength 1 mostConstraints constraints))) (each 7 (length constraints / constraintLength) (constraintRight constraints)) ⌝ }
+    // What is refused so far, or else code 13 for too many flights, or at a wrong count.
+    fn or_counts(self, counts: &[u64]) -> Refusal
+        ensures { λ f. let counts = now (counts .entry) in ⌜ f ≡ after (after self (whole 13 (leb (length counts) mostFlights))) (each 13 (length counts) (countRight counts)) ⌝ }
+    {
+        let f = self.unless(13, counts.len() as u64 <= limits::MOST_FLIGHTS);
+        if f.code != 0 {
+            return f;
+        }
+        f.or_at(13, scans::first_bad_count(counts))
+    }
+
+    // What is refused so far, or else code 13 for visits that are not as many as the counts ask for, or at a flight with a wrong visit.
+    fn or_visits(self, regions: u64, counts: &[u64], visits: &[u64]) -> Refusal
+        requires { ⌜ Few mostFlights mostVisits (now counts) ⌝ }
+        ensures { λ f. let counts = now (counts .entry) in let visits = now (visits .entry) in ⌜ f ≡ after (after self (whole 13 (eqb (length visits) (visitLength * sum counts (λ n. n))))) (each 13 (length counts) (flightRight regions counts visits)) ⌝ }
+    {
+        let numbers = limits::VISIT_LENGTH * sum_of(counts) as usize;
+        let f = self.unless(13, visits.len() == numbers);
+        if f.code != 0 {
+            return f;
+        }
+        f.or_at(13, scans::first_bad_flight(regions, counts, visits))
+    }
+
+    // What is refused so far, or else code 13, for the counts first, then for the visits.
+    fn or_flights(self, regions: u64, counts: &[u64], visits: &[u64]) -> Refusal
+        ensures { λ f. let counts = now (counts .entry) in let visits = now (visits .entry) in ⌜ f ≡ inTurn self (whole 13 (leb (length counts) mostFlights) ∷ each 13 (length counts) (countRight counts) ∷ whole 13 (eqb (length visits) (visitLength * sum counts (λ n. n))) ∷ each 13 (length counts) (flightRight regions counts visits) ∷ []) ⌝ }
+    {
+        let f = self.or_counts(counts);
+        if f.code != 0 {
+            return f;
+        }
+        f.or_visits(regions, counts, visits)
+    }
+
+    // What is refused so far, or else code 6 for the list, or code 7 at a constraint of it. Its kind is to be one of 1 to `kinds`.
+    fn or_constraints(self, kinds: u64, constraints: &[u64]) -> Refusal
+        ensures { λ f. let constraints = now (constraints .entry) in ⌜ f ≡ after (after self (whole 6 (records constraintLength 1 mostConstraints constraints))) (each 7 (length constraints / constraintLength) (constraintRight kinds constraints)) ⌝ }
     {
         let f = self.unless(
             6,
@@ -89,7 +128,7 @@ impl Refusal {
         if f.code != 0 {
             return f;
         }
-        f.or_at(7, scans::first_bad_constraint(constraints))
+        f.or_at(7, scans::first_bad_constraint(kinds, constraints))
     }
 
     // What is refused so far, or else code 8 for the list, or at a sector of it.
@@ -104,23 +143,27 @@ impl Refusal {
     }
 }
 
-// What a plan and its colouring are refused for: codes 1 to 8.
+// What a plan with constraints of the kinds 1 to `kinds`, and its colouring, are refused for: codes 1 to 8, and 13 after 5.
 pub fn plan_refusal(
+    kinds: u64,
     regions: u64,
     sectors: u64,
     workloads: &[u64],
     edges: &[u64],
+    counts: &[u64],
+    visits: &[u64],
     constraints: &[u64],
     colouring: &[u64],
 ) -> Refusal
-    ensures { λ f. ⌜ f ≡ planRefusal regions sectors (now (workloads .entry)) (now (edges .entry)) (now (constraints .entry)) (now (colouring .entry)) ⌝ }
+    ensures { λ f. ⌜ f ≡ planRefusal kinds regions sectors (now (workloads .entry)) (now (edges .entry)) (now (counts .entry)) (now (visits .entry)) (now (constraints .entry)) (now (colouring .entry)) ⌝ }
 {
     Refusal::NONE
         .unless(1, in_limits(1, regions, limits::MOST_REGIONS))
         .unless(2, in_limits(1, sectors, limits::MOST_SECTORS))
         .or_workloads(regions, workloads)
         .or_edges(regions, edges)
-        .or_constraints(constraints)
+        .or_flights(regions, counts, visits)
+        .or_constraints(kinds, constraints)
         .or_colouring(regions, sectors, colouring)
 }
 
@@ -135,12 +178,14 @@ fn room_for_work(regions: u64, sectors: u64, work: usize) -> bool
     sectors <= (room - regions - 1) / 2
 }
 
-// What a call is refused for: codes 1 to 12. Of the memory that it only writes, the room is given.
+// What a call is refused for: codes 1 to 13. Of the memory that it only writes, the room is given.
 pub fn call_refusal(
     regions: u64,
     sectors: u64,
     workloads: &[u64],
     edges: &[u64],
+    counts: &[u64],
+    visits: &[u64],
     constraints: &[u64],
     colouring: &[u64],
     moves: &[u64],
@@ -148,11 +193,22 @@ pub fn call_refusal(
     verdicts: usize,
     work: usize,
 ) -> Refusal
-    ensures { λ f. ⌜ f ≡ callRefusal (given regions sectors (now (workloads .entry)) (now (edges .entry)) (now (constraints .entry)) (now (colouring .entry)) (now (moves .entry)) rows verdicts work) ⌝ }
+    ensures { λ f. ⌜ f ≡ callRefusal (given regions sectors (now (workloads .entry)) (now (edges .entry)) (now (counts .entry)) (now (visits .entry)) (now (constraints .entry)) (now (colouring .entry)) (now (moves .entry)) rows verdicts work) ⌝ }
 {
     let rows_needed = limits::ROW_LENGTH * (moves.len() / limits::MOVE_LENGTH);
     let verdicts_needed = limits::VERDICT_LENGTH * (constraints.len() / limits::CONSTRAINT_LENGTH);
-    plan_refusal(regions, sectors, workloads, edges, constraints, colouring)
+    let of_plan = plan_refusal(
+        limits::DWELL,
+        regions,
+        sectors,
+        workloads,
+        edges,
+        counts,
+        visits,
+        constraints,
+        colouring,
+    );
+    of_plan
         .unless(
             9,
             scans::whole_records(limits::MOVE_LENGTH, 0, limits::MOST_MOVES, moves),

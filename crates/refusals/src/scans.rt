@@ -4,8 +4,10 @@ ghost use mathlib.Core.Bool.{_&&_, _||_};
 ghost use Prim.Native.Nat.{_+_, _-_, _*_, _/_, _<_};
 ghost use lib.Dec.{eqb};
 ghost use lib.ListN.{length};
-ghost use Rattle.meaning.specs.Plan.{edgeLength, constraintLength, edgeAt};
-ghost use Rattle.refusals.specs.Table.{records, firstOff, workloadRight, edgeRight, above, takes, constraintRight, sectorRight};
+ghost use Rattle.lists.specs.Sums.{sum};
+ghost use Rattle.terms.specs.Plan.{within};
+ghost use Rattle.meaning.specs.Plan.{edgeLength, visitLength, constraintLength, edgeAt, visitAt, visitsOf, mostDwell};
+ghost use Rattle.refusals.specs.Table.{records, firstOff, workloadRight, edgeRight, above, countRight, visitsRight, flightRight, takes, constraintRight, sectorRight};
 use terms::Relation;
 use terms::in_limits;
 use terms::limits;
@@ -93,19 +95,77 @@ pub fn first_bad_edge(regions: u64, edges: &[u64]) -> u64
     0
 }
 
+// The place, from 1, of the first count that is not one of 1..32, or 0.
+pub fn first_bad_count(counts: &[u64]) -> u64
+    ensures { λ r. ⌜ r ≡ firstOff (length (now (counts .entry))) (countRight (now (counts .entry))) ⌝ }
+{
+    let mut count = 0;
+    while count < counts.len() {
+        if !in_limits(1, counts[count], limits::MOST_VISITS) {
+            return count as u64 + 1;
+        }
+        count += 1;
+    }
+    0
+}
+
+fn visit_right(regions: u64, visits: &[u64], visit: usize) -> bool
+    requires { ⌜ visitLength * visit + 1 < length (now visits) ⌝ }
+    ensures { λ r. let v = visitAt (now (visits .entry)) visit in ⌜ r ≡ within 1 (v .region) regions && within 1 (v .dwell) mostDwell ⌝ }
+{
+    let at = limits::VISIT_LENGTH * visit;
+    both(
+        in_limits(1, visits[at], regions),
+        in_limits(1, visits[at + 1], limits::MOST_DWELL),
+    )
+}
+
+// Whether each visit of one flight is right.
+fn flight_right(regions: u64, visits: &[u64]) -> bool
+    ensures { λ r. ⌜ r ≡ visitsRight regions (visitsOf (now (visits .entry))) ⌝ }
+{
+    let count = visits.len() / limits::VISIT_LENGTH;
+    let mut visit = 0;
+    while visit < count {
+        if !visit_right(regions, visits, visit) {
+            return false;
+        }
+        visit += 1;
+    }
+    true
+}
+
+// The place, from 1, of the first flight with a wrong visit, or 0. The visits are those that the counts ask for.
+pub fn first_bad_flight(regions: u64, counts: &[u64], visits: &[u64]) -> u64
+    requires { ⌜ length (now visits) ≡ visitLength * sum (now counts) (λ n. n) ⌝ }
+    ensures { λ r. ⌜ r ≡ firstOff (length (now (counts .entry))) (flightRight regions (now (counts .entry)) (now (visits .entry))) ⌝ }
+{
+    let mut flight = 0;
+    let mut at = 0;
+    while flight < counts.len() {
+        let end = at + limits::VISIT_LENGTH * counts[flight] as usize;
+        if !flight_right(regions, &visits[at..end]) {
+            return flight as u64 + 1;
+        }
+        at = end;
+        flight += 1;
+    }
+    0
+}
+
 fn takes_relation(kind: u64, relation: u64) -> bool
     ensures { λ r. ⌜ r ≡ takes kind relation ⌝ }
 {
-    let any = either(kind == limits::CONNECTED, kind == limits::BOUNDED);
+    let any = either(kind == limits::CONNECTED, limits::BOUNDED <= kind);
     both(
         in_limits(Relation::AT_MOST, relation, Relation::AT_LEAST),
         either(any, relation == Relation::AT_MOST),
     )
 }
 
-fn constraint_right(constraints: &[u64], constraint: usize) -> bool
+fn constraint_right(kinds: u64, constraints: &[u64], constraint: usize) -> bool
     requires { ⌜ constraintLength * constraint + 3 < length (now constraints) ⌝ }
-    ensures { λ r. ⌜ r ≡ constraintRight (now (constraints .entry)) constraint ⌝ }
+    ensures { λ r. ⌜ r ≡ constraintRight kinds (now (constraints .entry)) constraint ⌝ }
 {
     let at = limits::CONSTRAINT_LENGTH * constraint;
     let kind = constraints[at];
@@ -113,7 +173,7 @@ fn constraint_right(constraints: &[u64], constraint: usize) -> bool
     let limit = constraints[at + 2];
     let weight = constraints[at + 3];
     let known = both(
-        in_limits(limits::CONNECTED, kind, limits::BOUNDED),
+        in_limits(limits::CONNECTED, kind, kinds),
         takes_relation(kind, relation),
     );
     both(
@@ -122,14 +182,14 @@ fn constraint_right(constraints: &[u64], constraint: usize) -> bool
     )
 }
 
-// The place, from 1, of the first constraint that is against its rules, or 0.
-pub fn first_bad_constraint(constraints: &[u64]) -> u64
-    ensures { λ r. ⌜ r ≡ firstOff (length (now (constraints .entry)) / constraintLength) (constraintRight (now (constraints .entry))) ⌝ }
+// The place, from 1, of the first constraint that is against its rules, or of a kind above `kinds`, or 0.
+pub fn first_bad_constraint(kinds: u64, constraints: &[u64]) -> u64
+    ensures { λ r. ⌜ r ≡ firstOff (length (now (constraints .entry)) / constraintLength) (constraintRight kinds (now (constraints .entry))) ⌝ }
 {
     let count = constraints.len() / limits::CONSTRAINT_LENGTH;
     let mut constraint = 0;
     while constraint < count {
-        if !constraint_right(constraints, constraint) {
+        if !constraint_right(kinds, constraints, constraint) {
             return constraint as u64 + 1;
         }
         constraint += 1;

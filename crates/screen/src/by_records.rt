@@ -16,6 +16,8 @@ pub extern "C" fn sctr_call_records(
     sectors: u64,
     workloads: &[u64],
     edges: &[u64],
+    counts: &[u64],
+    visits: &[u64],
     constraints: &[Constraint],
     colouring: &mut [u64],
     moves: &[u64],
@@ -23,7 +25,7 @@ pub extern "C" fn sctr_call_records(
     verdicts: &mut [u64],
     work: &mut [u64],
 ) -> Answer
-    ensures { λ r. ⌜ call.Promise (call.input regions sectors (now (workloads .entry)) (now (edges .entry)) (numbersOf (now (constraints .entry))) (now (colouring .entry)) (now (moves .entry)) (now (rows .entry)) (now (verdicts .entry)) (now (work .entry))) (call.left r (now (colouring .exit)) (now (rows .exit)) (now (verdicts .exit)) (now (work .exit))) ⌝ }
+    ensures { λ r. ⌜ call.Promise (call.input regions sectors (now (workloads .entry)) (now (edges .entry)) (now (counts .entry)) (now (visits .entry)) (numbersOf (now (constraints .entry))) (now (colouring .entry)) (now (moves .entry)) (now (rows .entry)) (now (verdicts .entry)) (now (work .entry))) (call.left r (now (colouring .exit)) (now (rows .exit)) (now (verdicts .exit)) (now (work .exit))) ⌝ }
 {
     judge_front(
         array_of(constraints),
@@ -32,6 +34,8 @@ pub extern "C" fn sctr_call_records(
         sectors,
         workloads,
         edges,
+        counts,
+        visits,
         colouring,
         moves,
         rows,

@@ -20,7 +20,7 @@ use Rattle.blocks.specs.Sheet.{blockAt, faultFrom}
 use Rattle.lists.specs.SumLaws.{every-append}
 use Rattle.sheet.specs.Form.{letters, mostBlocks, headWidths, dues, Contents, countsIn, contentsIn}
 use Rattle.sheet.specs.FormLaws.{HeadLimits, few-blocks, head-first, some-block}
-use Rattle.sheet.specs.Reading.{lengthRight, openTable, contentsRefusal, heldTable, sheetRefusal, Input, roomRight, readRefusal}
+use Rattle.sheet.specs.Reading.{lengthRight, openTable, contentsTable, contentsRefusal, heldTable, sheetRefusal, Input, roomRight, readRefusal}
 use Rattle.sheet.specs.Writing.{sheetBytes, writeRefusal}
 
 -- ---- tables in which a row on a block's fault has that fault's own code, 0 where there is none
@@ -176,7 +176,7 @@ module _ (i : Input) where
 
 module _ (k : Contents) (room : ℕ) where
   planRows : List Row
-  planRows = planTable (k .R) (k .S) (k .workloads) (k .edges) (k .constraints) (k .colouring)
+  planRows = contentsTable k
 
   bytesRow : List Row
   bytesRow = whole 40 (leb (sheetBytes k) room) ∷ []

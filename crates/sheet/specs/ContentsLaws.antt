@@ -12,7 +12,7 @@ use Rattle.refusals.specs.Valid.{ValidPlan, valid-plan}
 use Rattle.sheet.specs.declared.Counts.{Counts}
 use Rattle.sheet.specs.Form.{widths, turned, Contents, countsOf, numbers, contentsOf}
 use Rattle.sheet.specs.FormLaws.{HeadLimits, length-turned, turned-twice, length-widths}
-use Rattle.sheet.specs.Reading.{contentsRefusal}
+use Rattle.sheet.specs.Reading.{sheetKinds, contentsRefusal}
 
 -- the four numbers of a head
 abbrev pub headOf : Counts → List ℕ
@@ -100,13 +100,13 @@ numbers-contents c ns l h =
 
 -- ---- contents that are not refused
 
--- contents are a valid plan
+-- contents are a valid plan, which has no flights
 abbrev pub ValidContents : Contents → Type 0
-ValidContents k = ValidPlan (k .R) (k .S) (k .workloads) (k .edges) (k .constraints) (k .colouring)
+ValidContents k = ValidPlan (k .R) (k .S) (k .workloads) (k .edges) [] [] (k .constraints) (k .colouring)
 
 -- contents that are not refused are
 pub valid-contents : (k : Contents) → contentsRefusal k .code ≡ 0 → ValidContents k
-valid-contents k z = valid-plan (k .R) (k .S) (k .workloads) (k .edges) (k .constraints) (k .colouring) z
+valid-contents k z = valid-plan sheetKinds (omega arith) (k .R) (k .S) (k .workloads) (k .edges) [] [] (k .constraints) (k .colouring) z
 
 -- a valid plan has as many of each as its own counts say
 pub counted-valid : (k : Contents) → ValidContents k → Counted (countsOf k) k

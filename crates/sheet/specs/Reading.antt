@@ -10,7 +10,7 @@ use Rattle.packing.specs.Numbers.{total}
 use Rattle.terms.specs.Plan.{within}
 use Rattle.meaning.specs.Plan.{edgeLength, constraintLength, mostRegions, mostSectors, mostEdges, mostConstraints}
 use Rattle.refusals.specs.declared.Refusal.{Refusal}
-use Rattle.refusals.specs.Table.{Row, whole, item, refusal, planRefusal}
+use Rattle.refusals.specs.Table.{Row, whole, item, refusal, planTable, planRefusal}
 use Rattle.blocks.specs.Block.{blockLength, wrong}
 use Rattle.blocks.specs.Sheet.{blockAt, faultFrom}
 use Rattle.sheet.specs.declared.Read.{Read}
@@ -43,9 +43,17 @@ openTable sheet =
     ∷ whole 38 (eqb (length sheet / blockLength) (length (dues c)))
     ∷ []
 
--- what a plan is refused for by its call
+-- document 02, C-13: a sheet holds constraints of the kinds 1 to 4 only
+abbrev pub sheetKinds : ℕ
+sheetKinds = 4
+
+-- the call's rows on a plan, for what a sheet holds: there are no flights
+abbrev pub contentsTable : Contents → List Row
+contentsTable k = planTable sheetKinds (k .R) (k .S) (k .workloads) (k .edges) [] [] (k .constraints) (k .colouring)
+
+-- what is refused of it
 abbrev pub contentsRefusal : Contents → Refusal
-contentsRefusal k = planRefusal (k .R) (k .S) (k .workloads) (k .edges) (k .constraints) (k .colouring)
+contentsRefusal k = planRefusal sheetKinds (k .R) (k .S) (k .workloads) (k .edges) [] [] (k .constraints) (k .colouring)
 
 -- the rows on the later blocks in turn and on what they hold: 37 with the call's code for it
 unfoldable pub heldTable : List ℕ → List Row

@@ -17,7 +17,7 @@ use Rattle.sheet.specs.declared.Counts.{Counts}
 use Rattle.sheet.specs.declared.Written.{Written}
 use Rattle.sheet.specs.Form.{headWidths, workloadWidths, edgeWidths, constraintWidths, headSection, workloadSection, edgeSection, constraintSection, turned, Contents, countsOf, dues, sheetOf}
 use Rattle.sheet.specs.FormLaws.{HeadLimits}
-use Rattle.sheet.specs.Reading.{contentsRefusal, over}
+use Rattle.sheet.specs.Reading.{contentsTable, contentsRefusal, over}
 use Rattle.sheet.specs.Writing.{sheetBytes, writeRefusal, Outcome, outcome, Promise, left}
 use Rattle.sheet.specs.ContentsLaws.{Counted, headOf, counts-of, valid-contents, counted-valid, limits-valid}
 use Rattle.sheet.specs.RoundTrip.{length-written}
@@ -75,7 +75,7 @@ module _ (k : Contents) {f : Refusal} (g : f ≡ contentsRefusal k) (z : f .code
 
 module _ (k : Contents) (lent : List ℕ) where
   planRows : List Row
-  planRows = planTable (k .R) (k .S) (k .workloads) (k .edges) (k .constraints) (k .colouring)
+  planRows = contentsTable k
 
   bytesRow : Row
   bytesRow = whole 40 (leb (sheetBytes k) (length lent))

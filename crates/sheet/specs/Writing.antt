@@ -7,11 +7,11 @@ use mathlib.Core.List.{List, [], _∷_, _++_}
 use lib.Dec.{eqb, leb}
 use lib.ListN.{length}
 use Rattle.refusals.specs.declared.Refusal.{Refusal}
-use Rattle.refusals.specs.Table.{whole, refusal, planTable}
+use Rattle.refusals.specs.Table.{whole, refusal}
 use Rattle.blocks.specs.Block.{blockLength}
 use Rattle.sheet.specs.declared.Written.{Written}
 use Rattle.sheet.specs.Form.{Contents, countsOf, dues, sheetOf}
-use Rattle.sheet.specs.Reading.{over}
+use Rattle.sheet.specs.Reading.{contentsTable, over}
 
 -- how many bytes the sheet of some contents takes
 abbrev pub sheetBytes : Contents → ℕ
@@ -20,7 +20,7 @@ sheetBytes k = blockLength * length (dues (countsOf k))
 -- codes 1 to 8 as the call has them, then 40 for the lent bytes
 unfoldable pub writeRefusal : Contents → ℕ → Refusal
 writeRefusal k room =
-    refusal (planTable (k .R) (k .S) (k .workloads) (k .edges) (k .constraints) (k .colouring) ++ (whole 40 (leb (sheetBytes k) room) ∷ []))
+    refusal (contentsTable k ++ (whole 40 (leb (sheetBytes k) room) ∷ []))
 
 -- all that a caller sees when writing is over
 pub record Outcome : Type 0 where

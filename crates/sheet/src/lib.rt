@@ -2,6 +2,7 @@
 use blocks::BLOCK_LENGTH;
 
 mod form; // form.rt: the letters, the kinds of blocks in order, and what they hold
+mod contents; // contents.rt: what is refused of what a sheet holds
 mod opening; // opening.rt: the length, the head and the number of blocks
 mod turning; // turning.rt: a constraint's weight and limit change places
 pub mod reading; // reading.rt: a sheet into lent lists

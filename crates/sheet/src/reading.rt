@@ -14,6 +14,7 @@ ghost use Rattle.sheet.specs.ReadLaws.{refusedAnswer, enough, lastRows, 
 ghost use Rattle.sheet.specs.BySection.{workloadsAt, edgesAt, constraintsAt, colouringAt};
 use crate::Counts;
 use crate::Read;
+use crate::contents::contents_refusal;
 use crate::form::CONSTRAINT_BYTES;
 use crate::form::CONSTRAINT_WIDTHS;
 use crate::form::EDGE_BYTES;
@@ -41,7 +42,6 @@ use blocks::faults::first_fault;
 use blocks::reading::read_section;
 use lists::copy;
 use refusals::Refusal;
-use refusals::plan_refusal;
 use terms::limits::CONSTRAINT_LENGTH;
 use terms::limits::EDGE_LENGTH;
 use terms::limits::MOST_CONSTRAINTS;
@@ -183,7 +183,7 @@ fn held_refusal(
 ) -> Refusal
     ensures { λ f. ⌜ f ≡ refusal (lastRows (contents (counts .regions) (counts .sectors) (now (workloads .entry)) (now (edges .entry)) (now (constraints .entry)) (now (colouring .entry))) room) ⌝ }
 {
-    let refusal = plan_refusal(
+    let refusal = contents_refusal(
         counts.regions,
         counts.sectors,
         workloads,

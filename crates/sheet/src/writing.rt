@@ -14,6 +14,7 @@ ghost use Rattle.sheet.specs.ReadLaws.{HasBlocks};
 ghost use Rattle.sheet.specs.WriteLaws.{refusedAnswer};
 use crate::Counts;
 use crate::Written;
+use crate::contents::contents_refusal;
 use crate::form::CONSTRAINT_BYTES;
 use crate::form::CONSTRAINT_WIDTHS;
 use crate::form::EDGE_BYTES;
@@ -38,7 +39,6 @@ use crate::turning::copy_turned;
 use blocks::BLOCK_LENGTH;
 use blocks::writing::write_section;
 use refusals::Refusal;
-use refusals::plan_refusal;
 use terms::limits::CONSTRAINT_LENGTH;
 use terms::limits::EDGE_LENGTH;
 use terms::limits::MOST_CONSTRAINTS;
@@ -179,7 +179,7 @@ pub fn write(
 ) -> Written
     ensures { λ r. ⌜ Promise (contents regions sectors (now (workloads .entry)) (now (edges .entry)) (now (constraints .entry)) (now (colouring .entry))) (now (sheet .entry)) (left r (now (sheet .exit))) ⌝ }
 {
-    let refusal = plan_refusal(regions, sectors, workloads, edges, constraints, colouring);
+    let refusal = contents_refusal(regions, sectors, workloads, edges, constraints, colouring);
     if refusal.code != 0 {
         return refused(refusal);
     }

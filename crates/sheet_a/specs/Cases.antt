@@ -1,32 +1,53 @@
--- Document 01, "Sheet A and its numbers": the lines marked P, as one table and one theorem.
+-- Document 01, "Sheet A and its numbers": the lines marked P, and lines for document 02's C-11 that were worked out by hand, as one table and one theorem.
 -- Assumes nothing.
 use Prim.Native.Nat.{ℕ}
 use mathlib.Core.Path.{_≡_, refl}
-use mathlib.Core.List.{List, [], _∷_, map}
+use mathlib.Core.List.{List, [], _∷_, _++_, map}
 use lib.IntN.{ℤ, pos}
+use Rattle.lists.specs.Sums.{upTo}
 use Rattle.terms.specs.Distance.{stands, distance}
 use Rattle.terms.specs.Moves.{recolouring, exchange, question, ofRegion, moveOf}
-use Rattle.meaning.specs.Plan.{Plan, edgesOf, constraintsOf, planOf}
+use Rattle.meaning.specs.Plan.{Visit, Plan, edgesOf, visitsOf, flightsOf, constraintsOf, planOf}
 use Rattle.meaning.specs.Joined.{takeIn, takeAll, labels}
-use Rattle.meaning.specs.Kinds.{ncc, nccAll, load, whole, border, counts, loads, deviation, connected, bounded, byKind, violation, holds, total, leadsTo, borderOf, partOf, regionViolation}
+use Rattle.meaning.specs.Stretches.{before, stretches, dwellOf, visits}
+use Rattle.meaning.specs.Kinds.{ncc, nccAll, load, whole, border, counts, loads, deviation, connected, bounded, dwelling, byKind, violation, holds, total, leadsTo, borderOf, dwellingOf, partOf, regionViolation}
 use Rattle.meaning.specs.Moves.{movesOf, next, delta, differing, relabelled, row, cells, rows, verdict, verdictsOf, verdicts, work}
 use Rattle.blocks.specs.Fletcher.{check}
 
--- ---- the plans, and a text
+-- ---- the plans, a flight, and a text
 
--- sheet A: regions, sectors, workloads, edges, constraints
-planA : Plan
-planA =
+-- sheet A, with given flights and further constraints: regions, sectors, workloads, edges, visit counts, visits, constraints
+sheetA : List ℕ → List ℕ → List ℕ → Plan
+sheetA counts visits constraints =
     planOf 5 2 (10 ∷ 20 ∷ 30 ∷ 25 ∷ 15 ∷ [])
     (1 ∷ 2 ∷ 4 ∷ 2 ∷ 3 ∷ 6 ∷ 3 ∷ 4 ∷ 2 ∷ 4 ∷ 5 ∷ 3 ∷ [])
-    (1 ∷ 3 ∷ 2 ∷ 100 ∷ 2 ∷ 1 ∷ 5 ∷ 1 ∷ 3 ∷ 1 ∷ 40 ∷ 2 ∷ 4 ∷ 1 ∷ 55 ∷ 3 ∷ [])
+    counts visits
+    ((1 ∷ 3 ∷ 2 ∷ 100 ∷ 2 ∷ 1 ∷ 5 ∷ 1 ∷ 3 ∷ 1 ∷ 40 ∷ 2 ∷ 4 ∷ 1 ∷ 55 ∷ 3 ∷ []) ++ constraints)
+
+-- sheet A as document 01 has it
+planA : Plan
+planA = sheetA [] [] []
+
+-- sheet A with two flights, and kind 5 with >= 90 and weight 2
+planF : Plan
+planF =
+    sheetA (5 ∷ 4 ∷ [])
+    (1 ∷ 60 ∷ 2 ∷ 40 ∷ 4 ∷ 30 ∷ 5 ∷ 50 ∷ 1 ∷ 20 ∷ 3 ∷ 10 ∷ 2 ∷ 15 ∷ 3 ∷ 25 ∷ 4 ∷ 90 ∷ [])
+    (5 ∷ 6 ∷ 90 ∷ 2 ∷ [])
 
 colouringA : List ℕ
 colouringA = 1 ∷ 1 ∷ 1 ∷ 2 ∷ 2 ∷ []
 
+-- a second in each of the regions 1..12, and for their sectors the sequence of the report's section 4.3
+flight12 : List Visit
+flight12 = map (λ u. record { region = u; dwell = 1 }) (upTo 12)
+
+colouring12 : List ℕ
+colouring12 = 1 ∷ 1 ∷ 4 ∷ 4 ∷ 4 ∷ 4 ∷ 4 ∷ 4 ∷ 1 ∷ 1 ∷ 1 ∷ 2 ∷ []
+
 -- one region of a given workload, 64 sectors, kind 4 with >= 1
 lone : ℕ → Plan
-lone workload = planOf 1 64 (workload ∷ []) [] (4 ∷ 6 ∷ 1 ∷ 1 ∷ [])
+lone workload = planOf 1 64 (workload ∷ []) [] [] [] (4 ∷ 6 ∷ 1 ∷ 1 ∷ [])
 
 -- "abcde" in ASCII
 abcde : List ℕ
@@ -34,7 +55,7 @@ abcde = 97 ∷ 98 ∷ 99 ∷ 100 ∷ 101 ∷ []
 
 -- ---- the table
 
--- what the definitions give, and what document 01 says that they give
+-- what the definitions give, and what they must give
 pub record Case : Type 0 where
   pub found : List ℤ
   pub due : List ℕ
@@ -46,25 +67,26 @@ found is due = record { found = found; due = due }
 abbrev numbers : List ℕ → List ℤ
 numbers = map pos
 
--- the rows of moves on sheet A, three numbers a move
-rowsA : List ℕ → List ℤ
-rowsA moves = rows planA colouringA (movesOf planA moves)
+-- the rows of moves on sheet A's colouring, three numbers a move
+rowsOn : Plan → List ℕ → List ℤ
+rowsOn P moves = rows P colouringA (movesOf P moves)
 
-pub cases : List Case
-cases =
+-- document 01's lines
+ofSheetA : List Case
+ofSheetA =
     (numbers (total planA colouringA ∷ []) is (15 ∷ []))
     ∷ (numbers (labels (planA .edges) colouringA) is (1 ∷ 1 ∷ 1 ∷ 4 ∷ 4 ∷ []))
     ∷ (numbers (border planA colouringA ∷ deviation planA colouringA ∷ []) is (2 ∷ 40 ∷ []))
-    ∷ (rowsA (1 ∷ 2 ∷ 2 ∷ []) is (0 ∷ 307 ∷ 15 ∷ 0 ∷ []))
+    ∷ (rowsOn planA (1 ∷ 2 ∷ 2 ∷ []) is (0 ∷ 307 ∷ 15 ∷ 0 ∷ []))
     ∷ (numbers (total planA (1 ∷ 2 ∷ 1 ∷ 2 ∷ 2 ∷ []) ∷ []) is (322 ∷ []))
-    ∷ (rowsA (2 ∷ 3 ∷ 2 ∷ []) is (0 ∷ 111 ∷ 126 ∷ 3 ∷ []))
-    ∷ (rowsA (4 ∷ 3 ∷ 4 ∷ []) is (0 ∷ 291 ∷ 306 ∷ 2 ∷ []))
-    ∷ (rowsA (5 ∷ 3 ∷ 0 ∷ []) is (0 ∷ 57 ∷ 15 ∷ 0 ∷ []))
-    ∷ (rowsA (5 ∷ 4 ∷ 0 ∷ []) is (0 ∷ 42 ∷ 15 ∷ 0 ∷ []))
-    ∷ (rowsA (5 ∷ 5 ∷ 0 ∷ []) is (0 ∷ 40 ∷ 15 ∷ 0 ∷ []))
-    ∷ (rowsA (1 ∷ 6 ∷ 1 ∷ []) is (22 ∷ 0 ∷ 15 ∷ 0 ∷ []))
-    ∷ (rowsA (1 ∷ 5 ∷ 3 ∷ []) is (23 ∷ 0 ∷ 15 ∷ 0 ∷ []))
-    ∷ (rowsA (9 ∷ 0 ∷ 0 ∷ []) is (21 ∷ 0 ∷ 15 ∷ 0 ∷ []))
+    ∷ (rowsOn planA (2 ∷ 3 ∷ 2 ∷ []) is (0 ∷ 111 ∷ 126 ∷ 3 ∷ []))
+    ∷ (rowsOn planA (4 ∷ 3 ∷ 4 ∷ []) is (0 ∷ 291 ∷ 306 ∷ 2 ∷ []))
+    ∷ (rowsOn planA (5 ∷ 3 ∷ 0 ∷ []) is (0 ∷ 57 ∷ 15 ∷ 0 ∷ []))
+    ∷ (rowsOn planA (5 ∷ 4 ∷ 0 ∷ []) is (0 ∷ 42 ∷ 15 ∷ 0 ∷ []))
+    ∷ (rowsOn planA (5 ∷ 5 ∷ 0 ∷ []) is (0 ∷ 40 ∷ 15 ∷ 0 ∷ []))
+    ∷ (rowsOn planA (1 ∷ 6 ∷ 1 ∷ []) is (22 ∷ 0 ∷ 15 ∷ 0 ∷ []))
+    ∷ (rowsOn planA (1 ∷ 5 ∷ 3 ∷ []) is (23 ∷ 0 ∷ 15 ∷ 0 ∷ []))
+    ∷ (rowsOn planA (9 ∷ 0 ∷ 0 ∷ []) is (21 ∷ 0 ∷ 15 ∷ 0 ∷ []))
     ∷ (numbers (verdicts (lone 0) (1 ∷ [])) is (0 ∷ 64 ∷ []))
     ∷ (numbers (verdicts (lone 1) (1 ∷ [])) is (0 ∷ 63 ∷ []))
     ∷ (numbers (verdicts planA colouringA) is (1 ∷ 0 ∷ 1 ∷ 0 ∷ 1 ∷ 0 ∷ 0 ∷ 5 ∷ []))
@@ -72,7 +94,25 @@ cases =
     ∷ (numbers (work planA colouringA) is (1 ∷ 1 ∷ 1 ∷ 4 ∷ 4 ∷ 1 ∷ 1 ∷ 60 ∷ 40 ∷ 2 ∷ []))
     ∷ []
 
--- every line of the table is as document 01 says
+-- C-11's lines: the report's own example, then planF, where the distance is what a stretch lacks of 90 seconds
+-- on sheet A's colouring the stretches are of 60 + 40, 30 + 50 and 20 seconds, and of 10 + 15 + 25 and 90: they lack 0 + 10 + 70 and 40 + 0, and the total is 15 + 2 * 120
+-- region 3, twice in the stretch of 50 seconds, has 57 + 2 * 40
+-- with region 2 in sector 2 they are of 60, 40 + 30 + 50 and 20, and of 10, 15, 25 and 90: they lack 100 and 220, and the delta is 307 + 2 * (320 - 120)
+-- with region 3 in sector 2 those of the second flight are of 10, 15 and 25 + 90: they lack 80 and 155, and the delta is 111 + 2 * (235 - 120)
+ofFlights : List Case
+ofFlights =
+    (numbers (map dwellOf (stretches colouring12 flight12)) is (2 ∷ 6 ∷ 3 ∷ 1 ∷ []))
+    ∷ (numbers (verdicts planF colouringA) is (1 ∷ 0 ∷ 1 ∷ 0 ∷ 1 ∷ 0 ∷ 0 ∷ 5 ∷ 0 ∷ 120 ∷ []))
+    ∷ (rowsOn planF (5 ∷ 3 ∷ 0 ∷ []) is (0 ∷ 137 ∷ 255 ∷ 0 ∷ []))
+    ∷ (rowsOn planF (1 ∷ 2 ∷ 2 ∷ []) is (0 ∷ 707 ∷ 255 ∷ 0 ∷ []))
+    ∷ (rowsOn planF (2 ∷ 3 ∷ 2 ∷ []) is (0 ∷ 341 ∷ 596 ∷ 3 ∷ []))
+    ∷ []
+
+-- all lines
+pub cases : List Case
+cases = ofSheetA ++ ofFlights
+
+-- every line of the table is as it must be
 pub all-right : map (λ c. c .found) cases ≡ map (λ c. numbers (c .due)) cases
-unfolding planA colouringA lone abcde rowsA cases stands distance recolouring exchange question ofRegion moveOf edgesOf constraintsOf takeIn takeAll labels ncc nccAll load whole border counts loads deviation connected bounded byKind violation holds total leadsTo borderOf partOf regionViolation movesOf next delta differing relabelled row cells rows verdict verdictsOf work
+unfolding sheetA planA planF colouringA flight12 colouring12 lone abcde rowsOn ofSheetA ofFlights cases stands distance recolouring exchange question ofRegion moveOf edgesOf visitsOf flightsOf constraintsOf takeIn takeAll labels before stretches visits ncc nccAll load whole border counts loads deviation connected bounded dwelling byKind violation holds total leadsTo borderOf dwellingOf partOf regionViolation movesOf next delta differing relabelled row cells rows verdict verdictsOf work
 all-right = refl

@@ -1,6 +1,7 @@
 // Document 01's terms: a region, a sector, a relation and a move, each made by a constructor that refuses what is out of range.
 ghost use mathlib.Core.Path.{_≡_};
 ghost use Prim.Native.Nat.{_-_, _<_, _^_};
+ghost use Rattle.lists.specs.Sums.{In};
 ghost use Rattle.terms.specs.Plan.{within, regionOf, sectorOf, relationOf};
 ghost use Rattle.terms.specs.Distance.{gap, distance};
 ghost use Rattle.terms.specs.Moves.{recolouring, exchange, question, moveOf};
@@ -119,6 +120,19 @@ impl Relation {
             return excess(t + 1, x);
         }
         excess(t, x)
+    }
+}
+
+// The relation of a code that is one of 1 to 6.
+pub fn relation_of(code: u64) -> Relation
+    requires { ⌜ In 6 code ⌝ }
+    ensures { λ r. ⌜ r .code ≡ code ⌝ }
+{
+    match Relation::new(code) {
+        MadeRelation::Made(relation) => relation,
+        MadeRelation::Refused => Relation {
+            code: Relation::AT_MOST,
+        },
     }
 }
 

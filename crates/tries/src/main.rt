@@ -1,4 +1,4 @@
-// Runs sheet A's lines that are not proved, one call for each refusal and one for each status of a refused move.
+// Runs sheet A's lines that are not proved, a call with a flight, one call for each refusal and one for each status of a refused move.
 // A line has a name and the call's answer: code, place, first total, last total; for a status, the move's row.
 ghost use Prim.Native.Nat.{_≤_};
 use call::Answer;
@@ -44,6 +44,8 @@ fn call_with(
     sectors: u64,
     workloads: &[u64],
     edges: &[u64],
+    counts: &[u64],
+    visits: &[u64],
     constraints: &[u64],
     colouring: &mut [u64],
     moves: &[u64],
@@ -61,6 +63,8 @@ fn call_with(
         sectors,
         workloads,
         edges,
+        counts,
+        visits,
         constraints,
         colouring,
         moves,
@@ -86,9 +90,31 @@ fn plan_with(
         sectors,
         workloads,
         edges,
+        &[],
+        &[],
         constraints,
         &mut colouring,
         &PROBE,
+        4,
+        8,
+        10,
+    );
+}
+
+// A call on sheet A with these flights, with a constraint of kind 5, >= 60 of weight 7, and with the move that gives region 3 to sector 2.
+fn flights_with(name: &[u8], counts: &[u64], visits: &[u64]) {
+    let mut colouring = [1u64, 1, 1, 2, 2];
+    call_with(
+        name,
+        5,
+        2,
+        &WORKLOADS,
+        &EDGES,
+        counts,
+        visits,
+        &[5, 6, 60, 7],
+        &mut colouring,
+        &[2, 3, 2],
         4,
         8,
         10,
@@ -102,6 +128,8 @@ fn colouring_with(name: &[u8], colouring: &mut [u64]) {
         2,
         &WORKLOADS,
         &EDGES,
+        &[],
+        &[],
         &CONSTRAINTS,
         colouring,
         &PROBE,
@@ -121,6 +149,8 @@ fn room_with(name: &[u8], moves: &[u64], rows: usize, verdicts: usize, work: usi
         2,
         &WORKLOADS,
         &EDGES,
+        &[],
+        &[],
         &CONSTRAINTS,
         &mut colouring,
         moves,
@@ -141,6 +171,8 @@ fn row_of(name: &[u8], moves: &[u64; 3]) {
         2,
         &WORKLOADS,
         &EDGES,
+        &[],
+        &[],
         &CONSTRAINTS,
         &mut colouring,
         moves,
@@ -182,6 +214,7 @@ fn sheet_a_lines() {
         &CONSTRAINTS,
     );
     room_with(b"no moves:", &[], 4, 8, 10);
+    flights_with(b"a flight:", &[3], &[1, 30, 3, 40, 4, 50]);
 }
 
 fn codes_of_a_plan() {
@@ -210,6 +243,13 @@ fn codes_of_a_plan() {
     colouring_with(b"code 8, a sector:", &mut [1, 1, 1, 3, 2]);
 }
 
+fn codes_of_flights() {
+    flights_with(b"code 13:", &[1; 65], &[1; 130]);
+    flights_with(b"code 13, a count:", &[3, 0], &[1, 30, 3, 40, 4, 50]);
+    flights_with(b"code 13, the visits:", &[3], &[1, 30, 3, 40, 4]);
+    flights_with(b"code 13, a visit:", &[1, 2], &[1, 30, 3, 40, 6, 50]);
+}
+
 fn codes_of_the_room() {
     room_with(b"code 9:", &[1, 2], 4, 8, 10);
     room_with(b"code 10:", &PROBE, 3, 8, 10);
@@ -226,6 +266,7 @@ fn statuses() {
 fn main() {
     sheet_a_lines();
     codes_of_a_plan();
+    codes_of_flights();
     codes_of_the_room();
     statuses();
 }

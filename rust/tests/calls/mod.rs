@@ -3,9 +3,9 @@
 #![allow(dead_code)] // each test file takes its own part
 
 use crate::canary::Lent;
-use crate::cases::{self, compare_all, Case, Code};
+use crate::cases::{self, compare_all, Case, Code, Memory as _};
 use crate::library::{raw, Constraint};
-use crate::plans::{lower, lower_number, moves, one_less, plan, records, without, Numbers, Random};
+use crate::plans::{lower, lower_number, moves, one_less, plan, records, with_flights, without, Numbers, Random};
 use crate::reference::MOVES;
 use crate::{library, reference};
 
@@ -30,6 +30,7 @@ impl Call {
 
     pub fn random(random: &mut Random) -> Self {
         let plan = plan(random);
+        let plan = with_flights(random, plan);
         let count = if random.once_in(400) { MOVES as usize } else { random.pick(&[0, 1, 4, 12, 40]) };
         let moves = moves(random, &plan, count);
         Call::new(plan, moves)
@@ -55,6 +56,8 @@ pub struct Memory {
     sectors: u64,
     workloads: Lent<u64>,
     edges: Lent<u64>,
+    counts: Lent<u64>,
+    pub visits: Lent<u64>,
     constraints: Lent<u64>,
     records: Lent<Constraint>,
     pub colouring: Lent<u64>,
@@ -66,12 +69,14 @@ pub struct Memory {
 
 impl Memory {
     pub fn of(call: &Call) -> Self {
-        let Numbers { regions, sectors, workloads, edges, constraints, colouring } = &call.plan;
+        let Numbers { regions, sectors, workloads, edges, counts, visits, constraints, colouring } = &call.plan;
         Memory {
             regions: *regions,
             sectors: *sectors,
             workloads: Lent::list(workloads),
             edges: Lent::list(edges),
+            counts: Lent::list(counts),
+            visits: Lent::list(visits),
             constraints: Lent::list(constraints),
             records: Lent::list(&records(constraints)),
             colouring: Lent::list(colouring),
@@ -91,6 +96,8 @@ impl cases::Memory for Memory {
         self.work.same_as(&due.work, "work")?;
         self.workloads.same_as(&due.workloads, "workloads")?;
         self.edges.same_as(&due.edges, "edges")?;
+        self.counts.same_as(&due.counts, "counts")?;
+        self.visits.same_as(&due.visits, "visits")?;
         self.constraints.same_as(&due.constraints, "constraints")?;
         self.records.same_as(&due.records, "records")?;
         self.moves.same_as(&due.moves, "moves")
@@ -107,6 +114,8 @@ macro_rules! answer {
             $memory.sectors,
             $memory.workloads.slice(),
             $memory.edges.slice(),
+            $memory.counts.slice(),
+            $memory.visits.slice(),
             $memory.$constraints.slice(),
             $memory.colouring.slice(),
             $memory.moves.slice(),
@@ -137,9 +146,11 @@ macro_rules! archive_answer {
     ($call:path, $memory:ident, $constraints:ident) => {{
         let constraints = $memory.$constraints.parts();
         let rows = $memory.rows.parts();
-        let [workloads, edges, colouring, moves, verdicts, work] = [
+        let [workloads, edges, counts, visits, colouring, moves, verdicts, work] = [
             &mut $memory.workloads,
             &mut $memory.edges,
+            &mut $memory.counts,
+            &mut $memory.visits,
             &mut $memory.colouring,
             &mut $memory.moves,
             &mut $memory.verdicts,
@@ -155,6 +166,10 @@ macro_rules! archive_answer {
                 workloads.1,
                 edges.0,
                 edges.1,
+                counts.0,
+                counts.1,
+                visits.0,
+                visits.1,
                 constraints.0,
                 constraints.1,
                 colouring.0,
@@ -186,6 +201,24 @@ pub fn by_archive_records(memory: &mut Memory) -> Answer {
 pub fn compare(call: &Call, under_test: &[fn(&mut Memory) -> Answer]) -> Result<Code, String> {
     let answer = compare_all(&Memory::of(call), by_reference, under_test)?;
     Ok((answer[0], None))
+}
+
+/// The answer to these moves on a plan and what they leave, the same from all, by numbers and by records.
+pub fn asked(plan: &Numbers, moves: &[u64]) -> (Answer, Memory) {
+    let call = Call::new(plan.clone(), moves.to_vec());
+    let mut memory = Memory::of(&call);
+    let answer = by_reference(&mut memory);
+    for other in [by_library, by_archive, by_library_records, by_archive_records] {
+        let mut others = Memory::of(&call);
+        assert_eq!(other(&mut others), answer);
+        assert_eq!(others.same_as(&memory), Ok(()));
+    }
+    (answer, memory)
+}
+
+/// The rows of these moves on a plan.
+pub fn rows(plan: &Numbers, moves: &[u64]) -> Vec<i64> {
+    asked(plan, moves).1.rows.content().to_vec()
 }
 
 impl Case for Call {

@@ -70,7 +70,7 @@ impl<T: Number> Lent<T> {
         match (0..due.buffer.len()).find(|&place| self.buffer[place] != due.buffer[place]) {
             None => Ok(()),
             Some(place) => Err(format!(
-                "{name}[{}] of {}: the library leaves {:?}, document 01 asks for {:?}",
+                "{name}[{}] of {}: the library leaves {:?}, the documents ask for {:?}",
                 place as i64 - MARGIN as i64,
                 due.content().len(),
                 self.buffer[place],

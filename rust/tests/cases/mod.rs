@@ -44,7 +44,7 @@ pub fn compare_all<M: Memory, A: PartialEq + Debug>(
         let mut left = before.clone();
         let answer = answered(&mut left);
         if answer != answer_due {
-            return Err(format!("the library answers {answer:?}, document 01 asks for {answer_due:?}"));
+            return Err(format!("the library answers {answer:?}, the documents ask for {answer_due:?}"));
         }
         left.same_as(&due)?;
     }

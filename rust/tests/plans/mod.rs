@@ -1,7 +1,8 @@
-//! Random plans within document 01's limits and moves on them; numbers outside the limits are in `wild`.
+//! Random plans within the documents' limits and moves on them; flights are in `flights`, numbers outside the limits in `wild`.
 
 #![allow(dead_code, unused_imports)] // each test file takes its own part
 
+mod flights;
 mod random;
 mod refused;
 mod smaller;
@@ -9,8 +10,9 @@ mod wild;
 
 use crate::library::Constraint;
 use crate::reference::*;
+pub use flights::{flights_along, with_flights};
 pub use random::Random;
-pub use refused::{damaged, Damage, PLAN_DAMAGES};
+pub use refused::{damaged, judged_damages, stored_damages, Damage, PlanDamage};
 pub use smaller::{lower, lower_number, one_less, without};
 pub use wild::{break_list, wild};
 
@@ -21,11 +23,13 @@ pub struct Numbers {
     pub sectors: u64,
     pub workloads: Vec<u64>,
     pub edges: Vec<u64>,
+    pub counts: Vec<u64>,
+    pub visits: Vec<u64>,
     pub constraints: Vec<u64>,
     pub colouring: Vec<u64>,
 }
 
-/// The lists of a plan in their order.
+/// The lists of a plan that a sheet holds, in their order.
 pub const LISTS: [&str; 4] = ["workloads", "edges", "constraints", "colouring"];
 
 impl Numbers {
@@ -46,12 +50,23 @@ pub fn sheet_a() -> Numbers {
         sectors: 2,
         workloads: vec![10, 20, 30, 25, 15],
         edges: vec![1, 2, 4, 2, 3, 6, 3, 4, 2, 4, 5, 3],
+        counts: vec![],
+        visits: vec![],
         constraints: vec![1, 3, 2, 100, 2, 1, 5, 1, 3, 1, 40, 2, 4, 1, 55, 3],
         colouring: vec![1, 1, 1, 2, 2],
     }
 }
 
-/// A plan of any size; small ones are the most frequent.
+/// Sheet A with two flights, and with a fifth constraint: each stretch is of 60 seconds or more.
+pub fn sheet_a_with_flights() -> Numbers {
+    let mut numbers = sheet_a();
+    numbers.counts = vec![4, 4];
+    numbers.visits = [[1, 100, 2, 50, 3, 40, 4, 90], [4, 20, 5, 10, 4, 15, 3, 80]].concat();
+    numbers.constraints.extend([5, 6, 60, 2]);
+    numbers
+}
+
+/// A plan of any size, without flights; small ones are the most frequent.
 pub fn plan(random: &mut Random) -> Numbers {
     let most = random.pick(&[1, 6, 6, 6, 12, 12, 12, 40, 150, REGIONS]);
     let regions = if random.once_in(3) { most } else { random.between(1, most) };
@@ -60,7 +75,7 @@ pub fn plan(random: &mut Random) -> Numbers {
     plan_of(random, regions, sectors)
 }
 
-/// A plan as large as a plan can be.
+/// A plan as large as a plan without flights can be.
 pub fn largest_plan(random: &mut Random) -> Numbers {
     let mut numbers = plan_of(random, REGIONS, SECTORS);
     let pairs = scattered(random, REGIONS, EDGES as usize);
@@ -77,9 +92,10 @@ pub fn plan_of(random: &mut Random, regions: u64, sectors: u64) -> Numbers {
     let pairs = pairs(random, regions);
     let colouring = colouring(random, regions, sectors, &pairs);
     let edges = measured(random, pairs);
-    let mut numbers = Numbers { regions, sectors, workloads, edges, constraints: vec![], colouring };
+    let (counts, visits, constraints) = (vec![], vec![], vec![]);
+    let mut numbers = Numbers { regions, sectors, workloads, edges, counts, visits, constraints, colouring };
     let count = if random.once_in(10) { CONSTRAINTS } else { random.between(1, 6) };
-    numbers.constraints = constraints(random, &numbers, count);
+    numbers.constraints = self::constraints(random, &numbers, count);
     numbers
 }
 
@@ -158,7 +174,7 @@ fn colouring(random: &mut Random, regions: u64, sectors: u64, pairs: &Pairs) -> 
     colouring
 }
 
-/// Constraints whose limits are at their ends, or close to what the plan has.
+/// Constraints of the kinds 1 to 4 whose limits are at their ends, or close to what the plan has.
 fn constraints(random: &mut Random, plan: &Numbers, count: u64) -> Vec<u64> {
     let whole: u64 = plan.workloads.iter().sum();
     let area: u64 = plan.edges.chunks(3).map(|edge| edge[2]).sum();
@@ -174,13 +190,18 @@ fn constraints(random: &mut Random, plan: &Numbers, count: u64) -> Vec<u64> {
             3 => random.between(0, plan.sectors * whole),
             _ => held.map(|(_, workload)| workload).sum(),
         };
-        let close = (close + random.between(0, 2)).saturating_sub(1).min(LIMIT);
-        let any = random.between(0, LIMIT);
-        let limit = random.pick(&[0, 1, close, close, close, close, any, LIMIT]);
-        let any = random.between(1, WEIGHT);
-        constraints.extend([kind, relation, limit, random.pick(&[1, any, WEIGHT])]);
+        constraints.extend(constraint(random, kind, relation, close));
     }
     constraints
+}
+
+/// A constraint whose limit is at an end, or close to this number.
+fn constraint(random: &mut Random, kind: u64, relation: u64, close: u64) -> [u64; 4] {
+    let close = (close + random.between(0, 2)).saturating_sub(1).min(LIMIT);
+    let any = random.between(0, LIMIT);
+    let limit = random.pick(&[0, 1, close, close, close, close, any, LIMIT]);
+    let any = random.between(1, WEIGHT);
+    [kind, relation, limit, random.pick(&[1, any, WEIGHT])]
 }
 
 /// Moves on a plan; one in eight has a number that may be refused.

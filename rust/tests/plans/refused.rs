@@ -1,4 +1,4 @@
-//! Damage for every refusal: to sheet A's numbers for codes 1 to 8, and how damages are put together.
+//! Damage for every refusal: to sheet A's numbers for codes 1 to 8, to its flights for 13, and how damages are put together.
 
 use super::Numbers;
 
@@ -22,11 +22,27 @@ pub fn damaged<T: Clone>(good: &T, damages: &[Damage<T>]) -> Vec<(u64, u64, T)> 
     all
 }
 
-type PlanDamage = (u64, u64, fn(&mut Numbers));
+pub type PlanDamage = (u64, u64, fn(&mut Numbers));
 
-/// Damage to sheet A, in the order of checking.
+/// Damage to sheet A with flights, for the call.
+pub fn judged_damages() -> Vec<PlanDamage> {
+    in_order([PLAN_DAMAGES, FLIGHT_DAMAGES].concat())
+}
+
+/// Damage to sheet A, for writing.
+pub fn stored_damages() -> Vec<PlanDamage> {
+    in_order([PLAN_DAMAGES, STORED_DAMAGES].concat())
+}
+
+/// The order of checking, in which 13 comes after 5; those of one code keep theirs.
+fn in_order(mut damages: Vec<PlanDamage>) -> Vec<PlanDamage> {
+    damages.sort_by_key(|&(code, _, _)| if code == 13 { (5, 1) } else { (code, 0) });
+    damages
+}
+
+/// Damage to sheet A, with flights or without.
 #[rustfmt::skip]
-pub const PLAN_DAMAGES: &[PlanDamage] = &[
+const PLAN_DAMAGES: &[PlanDamage] = &[
     (1, 0, |plan| plan.regions = 0),
     (1, 0, |plan| plan.regions = 513),
     (1, 0, |plan| plan.regions = u64::MAX),
@@ -58,7 +74,7 @@ pub const PLAN_DAMAGES: &[PlanDamage] = &[
     (6, 0, |plan| plan.constraints.push(0)),
     (6, 0, |plan| plan.constraints.resize(4 * 17, 0)),
     (7, 1, |plan| plan.constraints[0] = 0),
-    (7, 1, |plan| plan.constraints[0] = 5),
+    (7, 1, |plan| plan.constraints[0] = 6),
     (7, 1, |plan| plan.constraints[1] = 0),
     (7, 1, |plan| plan.constraints[1] = 7),
     (7, 1, |plan| plan.constraints[2] = 100_000_000_001),
@@ -74,4 +90,45 @@ pub const PLAN_DAMAGES: &[PlanDamage] = &[
     (8, 1, |plan| plan.colouring[0] = 0),
     (8, 2, |plan| plan.colouring[1..].fill(u64::MAX)),
     (8, 5, |plan| plan.colouring[4] = 3),
+];
+
+/// Damage to the flights of sheet A with flights, and to the constraint on them.
+#[rustfmt::skip]
+const FLIGHT_DAMAGES: &[PlanDamage] = &[
+    (13, 0, |plan| plan.counts.resize(65, 1)),
+    (13, 0, |plan| plan.counts.resize(65, u64::MAX)),
+    (13, 0, |plan| { plan.counts = vec![1; 65]; plan.visits = [1, 1].repeat(65) }),
+    (13, 1, |plan| plan.counts[0] = 0),
+    (13, 1, |plan| plan.counts[0] = 33),
+    (13, 1, |plan| plan.counts.fill(u64::MAX)),
+    (13, 2, |plan| plan.counts[1] = 1 << 63),
+    (13, 2, |plan| plan.counts[1] = (1 << 32) + 4),
+    (13, 3, |plan| plan.counts.push(0)),
+    (13, 0, |plan| plan.counts[0] = 3),
+    (13, 0, |plan| plan.counts[1] = 5),
+    (13, 0, |plan| plan.visits.clear()),
+    (13, 0, |plan| plan.visits.truncate(14)),
+    (13, 0, |plan| plan.visits.truncate(15)),
+    (13, 0, |plan| plan.visits.push(1)),
+    (13, 0, |plan| plan.visits.extend([1, 1])),
+    (13, 1, |plan| plan.visits[0] = 0),
+    (13, 1, |plan| plan.visits[1..].fill(0)),
+    (13, 1, |plan| plan.visits[6] = 6),
+    (13, 1, |plan| plan.visits[7] = 86_401),
+    (13, 2, |plan| plan.visits[8] = u64::MAX),
+    (13, 2, |plan| plan.visits[9] = 0),
+    (13, 2, |plan| plan.visits[14] = (1 << 32) + 1),
+    (13, 2, |plan| plan.visits[15] = u64::MAX),
+    (7, 5, |plan| plan.constraints[16] = 6),
+    (7, 5, |plan| plan.constraints[17] = 0),
+    (7, 5, |plan| plan.constraints[17] = 7),
+    (7, 5, |plan| plan.constraints[18] = 100_000_000_001),
+    (7, 5, |plan| plan.constraints[19] = 0),
+    (7, 5, |plan| plan.constraints[19] = 1_001),
+];
+
+/// Damage to sheet A that is none to a plan for the call: the sheet holds no constraint of kind 5.
+#[rustfmt::skip]
+const STORED_DAMAGES: &[PlanDamage] = &[
+    (7, 4, |plan| plan.constraints[12] = 5),
 ];

@@ -1,9 +1,9 @@
-//! Numbers and lists outside document 01's limits.
+//! Numbers and lists outside the documents' limits.
 
 use super::{Numbers, Random};
 use crate::reference::*;
 
-/// A number at or beyond an end: of these, of document 01's limits, or of a type.
+/// A number at or beyond an end: of these, of the documents' limits, or of a type.
 pub fn wild(random: &mut Random, ends: &[u64]) -> u64 {
     let mut all = ends.to_vec();
     all.extend([0, REGIONS, SECTORS, WORKLOAD, EDGES, CONSTRAINTS, LIMIT, WEIGHT, MOVES]);
@@ -30,7 +30,7 @@ pub fn break_list(random: &mut Random, list: &mut Vec<u64>, ends: &[u64]) {
 }
 
 impl Numbers {
-    /// Changes one thing for a wild one; by chance the plan may still be good after it.
+    /// Changes one thing besides the flights for a wild one; by chance the plan may still be good after it.
     pub fn break_one(&mut self, random: &mut Random) {
         let ends = [self.regions, self.sectors];
         match random.between(0, 9) {
@@ -40,6 +40,32 @@ impl Numbers {
             4 | 5 => break_list(random, &mut self.edges, &ends),
             6 | 7 => break_list(random, &mut self.constraints, &ends),
             _ => break_list(random, &mut self.colouring, &ends),
+        }
+    }
+
+    /// Makes the flights too many, a count wrong, the list of visits too long or too short, or a visit wrong; or changes one of
+    /// their lists, after which they may still be good.
+    pub fn break_flights(&mut self, random: &mut Random) {
+        let ends = [self.regions, FLIGHTS, VISITS, DWELL];
+        let number = wild(random, &ends);
+        match random.between(0, 5) {
+            0 => {
+                let most = (FLIGHTS + random.between(1, 3)) as usize;
+                self.visits.extend([1, 1].repeat(most.saturating_sub(self.counts.len())));
+                self.counts.resize(most.max(self.counts.len()), 1);
+            }
+            1 => self.counts.push(random.pick(&[0, VISITS + 1, number])),
+            2 => {
+                let length = self.visits.len();
+                self.visits.resize(random.pick(&[length + 1, length + 2, length.saturating_sub(1), length.saturating_sub(2)]), 1);
+            }
+            3 => {
+                self.counts.push(1);
+                let above = self.regions.wrapping_add(1);
+                self.visits.extend(random.pick(&[[0, 1], [above, 1], [1, 0], [1, DWELL + 1], [number, number]]));
+            }
+            4 => break_list(random, &mut self.counts, &ends),
+            _ => break_list(random, &mut self.visits, &ends),
         }
     }
 }

@@ -1,6 +1,6 @@
 //! Moves, their rows, and the whole call.
 
-use super::limits::MOVES;
+use super::limits::{CALL_KINDS, MOVES};
 use super::meaning::at;
 use super::plan::{demand, whole_items, Plan, Refusal};
 
@@ -11,13 +11,15 @@ pub struct Totals {
     pub last: u64,
 }
 
-/// The call: codes 1 to 12 in order, then a row for each move in turn, then what the last colouring means.
+/// The call: codes 1 to 13 in their order, then a row for each move in turn, then what the last colouring means.
 #[allow(clippy::too_many_arguments)]
 pub fn call(
     regions: u64,
     sectors: u64,
     workloads: &[u64],
     edges: &[u64],
+    counts: &[u64],
+    visits: &[u64],
     constraints: &[u64],
     colouring: &mut [u64],
     moves: &[u64],
@@ -25,7 +27,7 @@ pub fn call(
     verdicts: &mut [u64],
     work: &mut [u64],
 ) -> Result<Totals, Refusal> {
-    let mut plan = Plan::new(regions, sectors, workloads, edges, constraints, colouring)?;
+    let mut plan = Plan::new(CALL_KINDS, regions, sectors, workloads, edges, counts, visits, constraints, colouring)?;
     whole_items(9, moves, 3)?;
     demand(moves.len() as u64 / 3 <= MOVES, 9, 0)?;
     demand(rows.len() >= moves.len() / 3 * 4, 10, 0)?;

@@ -1,14 +1,21 @@
-//! The numbers that document 01 fixes.
+//! The numbers that documents 01 and 02 fix.
 
 pub const REGIONS: u64 = 512;
 pub const SECTORS: u64 = 64;
 pub const WORKLOAD: u64 = 1_000_000;
 pub const EDGES: u64 = 2_048;
 pub const AREA: u64 = 1_000_000;
+pub const FLIGHTS: u64 = 64;
+pub const VISITS: u64 = 32;
+pub const DWELL: u64 = 86_400;
 pub const CONSTRAINTS: u64 = 16;
 pub const LIMIT: u64 = 100_000_000_000;
 pub const WEIGHT: u64 = 1_000;
 pub const MOVES: u64 = 4_096;
+
+/// The kinds of constraints that the call takes, and those that the sheet holds.
+pub const CALL_KINDS: u64 = 5;
+pub const SHEET_KINDS: u64 = 4;
 
 /// A block's bytes, its bytes before the payload, and the most payload it has; the most blocks a sheet has.
 pub const BLOCK: usize = 512;

@@ -1,14 +1,15 @@
-//! What a plan means: labels, components, workload sums, T, the four kinds of violation, the total.
+//! What a plan means: labels, components, workload sums, T, stretches, the five kinds of violation, the total.
 
-use super::plan::{Constraint, Plan};
+use super::plan::{Constraint, Plan, Visit};
 
-/// What follows from a plan and its colouring: the labels, NCC(c) and X(c) of each sector, and T.
+/// What follows from a plan and its colouring: the labels, NCC(c) and X(c) of each sector, T, and the stretches of all flights.
 pub struct Meaning<'a> {
     plan: &'a Plan,
     pub labels: Vec<u64>,
     pub components: Vec<u64>,
     pub sums: Vec<u64>,
     pub border: u64,
+    stretches: Vec<&'a [Visit]>,
 }
 
 /// Where the thing with this number, from 1, stands in its list.
@@ -33,7 +34,13 @@ impl Plan {
         }
         let cut = self.edges.iter().filter(|edge| self.sector(edge.a) != self.sector(edge.b));
         let border = cut.map(|edge| edge.area).sum();
-        Meaning { plan: self, labels, components, sums, border }
+        Meaning { plan: self, labels, components, sums, border, stretches: self.stretches() }
+    }
+
+    /// The largest unbroken runs of one flight's visits in one sector, those of each flight in turn.
+    fn stretches(&self) -> Vec<&[Visit]> {
+        let together = |one: &Visit, next: &Visit| self.sector(one.region) == self.sector(next.region);
+        self.flights.iter().flat_map(|flight| flight.chunk_by(together)).collect()
     }
 
     /// The smallest region number that each region is joined to: both ends of an edge within a sector take the smaller of their
@@ -80,6 +87,7 @@ impl Meaning<'_> {
             2 => self.border.saturating_sub(limit),
             3 => self.deviation().saturating_sub(limit),
             4 => self.sums.iter().map(|&sum| distance(relation, sum, limit)).sum(),
+            5 => self.stretches.iter().map(|stretch| distance(relation, dwell(stretch), limit)).sum(),
             _ => unreachable!("code 7 refuses the other kinds"),
         }
     }
@@ -95,6 +103,7 @@ impl Meaning<'_> {
             2 => self.own_border(region),
             3 => self.imbalance(sector),
             4 => distance(constraint.relation, self.sums[at(sector)], constraint.limit),
+            5 => self.own_dwell(region, constraint),
             _ => unreachable!("code 7 refuses the other kinds"),
         };
         self.plan.constraints.iter().map(|constraint| constraint.weight * by_kind(constraint)).sum()
@@ -106,6 +115,17 @@ impl Meaning<'_> {
         let cut = own.filter(|edge| self.plan.sector(edge.a) != self.plan.sector(edge.b));
         cut.map(|edge| edge.area).sum()
     }
+
+    /// The sum of d over the stretches that visit the region, each stretch once.
+    fn own_dwell(&self, region: u64, constraint: &Constraint) -> u64 {
+        let own = self.stretches.iter().filter(|stretch| stretch.iter().any(|visit| visit.region == region));
+        own.map(|stretch| distance(constraint.relation, dwell(stretch), constraint.limit)).sum()
+    }
+}
+
+/// The summed dwell of a stretch.
+fn dwell(stretch: &[Visit]) -> u64 {
+    stretch.iter().map(|visit| visit.dwell).sum()
 }
 
 fn stands(relation: u64, x: u64, t: u64) -> bool {

@@ -1,4 +1,4 @@
-//! An independent implementation of document 01, written from it alone and sharing nothing with the library.
+//! An independent implementation of documents 01 and 02, written from them alone and sharing nothing with the library.
 //! It is simple rather than fast: whatever is asked is worked out from scratch.
 
 #![allow(dead_code, unused_imports)] // each test file takes its own part

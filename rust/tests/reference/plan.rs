@@ -1,4 +1,4 @@
-//! A plan, and codes 1 to 8: what a list of numbers must be to make one.
+//! A plan, and codes 1 to 8 with 13 among them: what a list of numbers must be to make one.
 
 use super::limits::*;
 
@@ -15,6 +15,11 @@ pub struct Edge {
     pub area: u64,
 }
 
+pub struct Visit {
+    pub region: u64,
+    pub dwell: u64,
+}
+
 pub struct Constraint {
     pub kind: u64,
     pub relation: u64,
@@ -22,23 +27,29 @@ pub struct Constraint {
     pub weight: u64,
 }
 
-/// A plan with its colouring, all within document 01's limits. Region 1 comes first in the lists.
+/// A plan with its colouring, all within the documents' limits. Region 1 comes first in the lists; a flight is a list of visits.
 pub struct Plan {
     pub regions: u64,
     pub sectors: u64,
     pub workloads: Vec<u64>,
     pub edges: Vec<Edge>,
+    pub flights: Vec<Vec<Visit>>,
     pub constraints: Vec<Constraint>,
     pub colouring: Vec<u64>,
 }
 
 impl Plan {
-    /// The plan of these numbers, or the first of codes 1 to 8 that refuses them.
+    /// The plan of these numbers with constraints of the kinds 1 to `kinds`, or the first of codes 1 to 5, 13 and 6 to 8 that
+    /// refuses them.
+    #[allow(clippy::too_many_arguments)]
     pub fn new(
+        kinds: u64,
         regions: u64,
         sectors: u64,
         workloads: &[u64],
         edges: &[u64],
+        counts: &[u64],
+        visits: &[u64],
         constraints: &[u64],
         colouring: &[u64],
     ) -> Result<Plan, Refusal> {
@@ -48,15 +59,17 @@ impl Plan {
         whole_items(4, edges, 3)?;
         check_edge_count(edges.len() as u64 / 3)?;
         check_edges(regions, edges)?;
+        let flights = flights(regions, counts, visits)?;
         whole_items(6, constraints, 4)?;
         check_constraint_count(constraints.len() as u64 / 4)?;
-        check_constraints(constraints)?;
+        check_constraints(kinds, constraints)?;
         check_list(8, regions, colouring, |sector| (1..=sectors).contains(&sector))?;
         Ok(Plan {
             regions,
             sectors,
             workloads: workloads.to_vec(),
             edges: edges.chunks(3).map(|edge| Edge { a: edge[0], b: edge[1], area: edge[2] }).collect(),
+            flights,
             constraints: constraints
                 .chunks(4)
                 .map(|four| Constraint { kind: four[0], relation: four[1], limit: four[2], weight: four[3] })
@@ -115,13 +128,26 @@ fn check_edges(regions: u64, edges: &[u64]) -> Result<(), Refusal> {
     Ok(())
 }
 
-fn check_constraints(constraints: &[u64]) -> Result<(), Refusal> {
+/// The flights of these two lists, or code 13.
+fn flights(regions: u64, counts: &[u64], visits: &[u64]) -> Result<Vec<Vec<Visit>>, Refusal> {
+    demand(counts.len() as u64 <= FLIGHTS, 13, 0)?;
+    for (place, count) in (1..).zip(counts) {
+        demand((1..=VISITS).contains(count), 13, place)?;
+    }
+    demand(visits.len() as u64 == 2 * counts.iter().sum::<u64>(), 13, 0)?;
+    let mut visits = visits.chunks(2).map(|visit| Visit { region: visit[0], dwell: visit[1] });
+    let flights: Vec<Vec<Visit>> = counts.iter().map(|&count| visits.by_ref().take(count as usize).collect()).collect();
+    for (place, flight) in (1..).zip(&flights) {
+        let good = |visit: &Visit| (1..=regions).contains(&visit.region) && (1..=DWELL).contains(&visit.dwell);
+        demand(flight.iter().all(good), 13, place)?;
+    }
+    Ok(flights)
+}
+
+fn check_constraints(kinds: u64, constraints: &[u64]) -> Result<(), Refusal> {
     for (place, four) in (1..).zip(constraints.chunks(4)) {
-        let relations = match four[0] {
-            1 | 4 => 1..=6,
-            2 | 3 => 1..=1,
-            _ => return Err(Refusal { code: 7, place }),
-        };
+        demand((1..=kinds).contains(&four[0]), 7, place)?;
+        let relations = if four[0] == 2 || four[0] == 3 { 1..=1 } else { 1..=6 };
         demand(relations.contains(&four[1]) && four[2] <= LIMIT && (1..=WEIGHT).contains(&four[3]), 7, place)?;
     }
     Ok(())

@@ -73,6 +73,18 @@ fn unpack(mut bytes: &[u8], widths: &[usize]) -> Vec<u64> {
     numbers
 }
 
+/// A plan that a sheet can hold: without flights, and with constraints of the kinds 1 to 4.
+fn stored(
+    regions: u64,
+    sectors: u64,
+    workloads: &[u64],
+    edges: &[u64],
+    constraints: &[u64],
+    colouring: &[u64],
+) -> Result<Plan, Refusal> {
+    Plan::new(SHEET_KINDS, regions, sectors, workloads, edges, &[], &[], constraints, colouring)
+}
+
 /// Writing: codes 1 to 8, then 40; answers the bytes written.
 pub fn write(
     regions: u64,
@@ -83,7 +95,7 @@ pub fn write(
     colouring: &[u64],
     sheet: &mut [u8],
 ) -> Result<usize, Refusal> {
-    Plan::new(regions, sectors, workloads, edges, constraints, colouring)?;
+    stored(regions, sectors, workloads, edges, constraints, colouring)?;
     let bytes = lay_out(regions, sectors, workloads, edges, constraints, colouring);
     demand(sheet.len() >= bytes.len(), 40, 0)?;
     sheet[..bytes.len()].copy_from_slice(&bytes);
@@ -129,7 +141,7 @@ pub fn plan_in(sheet: &[u8]) -> Result<Plan, Refusal> {
     }
     let [_, workloads, edges, constraints, colouring] = [0, 1, 2, 3, 4].map(|kind| unpack(&contents[kind], KINDS[kind].widths));
     let constraints = limit_and_weight_exchanged(&constraints);
-    against_rules(Plan::new(head.regions, head.sectors, &workloads, &edges, &constraints, &colouring))
+    against_rules(stored(head.regions, head.sectors, &workloads, &edges, &constraints, &colouring))
 }
 
 /// The numbers of the head, or why it is refused.

@@ -16,7 +16,7 @@ pub use reading::{numbers_in, Reading};
 use std::path::PathBuf;
 pub use writing::Writing;
 
-/// The sheet laid out from these numbers and then changed in turn.
+/// The sheet laid out from these numbers but for the flights, and then changed in turn.
 #[derive(Clone, Debug)]
 pub struct Sheet {
     pub plan: Numbers,
@@ -37,7 +37,7 @@ impl Sheet {
     }
 
     pub fn bytes(&self) -> Vec<u8> {
-        let Numbers { regions, sectors, workloads, edges, constraints, colouring } = &self.plan;
+        let Numbers { regions, sectors, workloads, edges, constraints, colouring, .. } = &self.plan;
         let mut bytes = lay_out(*regions, *sectors, workloads, edges, constraints, colouring);
         for change in &self.changes {
             change.apply(&mut bytes);

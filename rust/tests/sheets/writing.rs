@@ -7,7 +7,7 @@ use crate::library::{raw, Constraint};
 use crate::plans::{lower_number, plan, records, Numbers, Random};
 use crate::{library, reference};
 
-/// What is handed over: the numbers, and how many bytes are lent.
+/// What is handed over: the numbers but for the flights, and how many bytes are lent.
 #[derive(Clone, Debug)]
 pub struct Writing {
     pub plan: Numbers,
@@ -41,7 +41,7 @@ pub struct Memory {
 
 impl Memory {
     pub fn of(writing: &Writing) -> Self {
-        let Numbers { regions, sectors, workloads, edges, constraints, colouring } = &writing.plan;
+        let Numbers { regions, sectors, workloads, edges, constraints, colouring, .. } = &writing.plan;
         Memory {
             regions: *regions,
             sectors: *sectors,

@@ -1,4 +1,4 @@
--- The second's sectors are turned round, and the areas added up.
+-- The second's sectors are turned round, and what both gain and lose is added up.
 use borrow.Author.Needs.{needs}
 use Rattle.change.proofs.in_turn.Statement.{statement}
 use Rattle.change.proofs.in_turn.Tie as tie
@@ -6,14 +6,14 @@ use Rattle.change.proofs.in_turn.Tie as tie
 turned-round-requires : tie.Need-turned-round-requires
 turned-round-requires c κs = search needs
 
-add-gained : tie.Need-add-gained
-add-gained c = search needs
+both-requires : tie.Need-both-requires
+both-requires c κs = search needs
 
-add-lost : tie.Need-add-lost
-add-lost c = search needs
+both-requires-2 : tie.Need-both-requires-2
+both-requires-2 c κs = search needs
 
 returns : tie.Need-returns
-returns c = rw (c .before .before .before .before .turned-round .ensures)
+returns c = rw (c .before .before .turned-round .ensures, c .before .both .ensures, c .both2 .ensures)
 
 pub in-turn-spec : {M : Type 1} → statement M
-in-turn-spec = tie.close (tie.spec turned-round-requires add-gained add-lost returns)
+in-turn-spec = tie.close (tie.spec turned-round-requires both-requires both-requires-2 returns)

@@ -45,9 +45,14 @@ loop-again c =
     let h : l .k < constraintCount (c .before .before .before .before .before .args .constraints .now) = omega arith in
     summed-turn (l .inv) (drop-places _ (l .k) h) (c .weighted-after .ensures)
 
+add-result : tie.Need-add-result Inv-loop μ-loop
+unfolding totalAfter
+add-result c =
+    omega (arith, summed-end (c .before .before .loop .inv) (rw length-from (omega arith)), total-room (c .before .before .before .before .before .pre))
+
 returns : tie.Need-returns Inv-loop μ-loop
 unfolding totalAfter
-returns c = summed-end (c .before .loop .inv) (rw length-from (omega arith))
+returns c = rw (summed-end (c .before .before .loop .inv) (rw length-from (omega arith)))
 
 pub total-after-spec : {M : Type 1} → statement M
 total-after-spec =
@@ -61,4 +66,5 @@ total-after-spec =
     add-k
     loop-less
     loop-again
+    add-result
     returns)

@@ -23,6 +23,9 @@ or-workloads-requires c κs = search needs
 or-edges-requires : tie.Need-or-edges-requires
 or-edges-requires c κs = search needs
 
+or-flights-requires : tie.Need-or-flights-requires
+or-flights-requires c κs = search needs
+
 or-constraints-requires : tie.Need-or-constraints-requires
 or-constraints-requires c κs = search needs
 
@@ -33,13 +36,15 @@ returns : tie.Need-returns
 unfolding planTable inTurn
 returns c =
     let constraints = c .before in
-    let edges = constraints .before in
+    let flights = constraints .before in
+    let edges = flights .before in
     let workloads = edges .before in
     let sectors = workloads .before in
     let regions = sectors .before .before in
     rw (
       c .or-colouring .ensures,
       constraints .or-constraints .ensures,
+      flights .or-flights .ensures,
       edges .or-edges .ensures,
       workloads .or-workloads .ensures,
       sectors .unless2 .ensures,
@@ -47,7 +52,7 @@ returns c =
       regions .unless .ensures,
       regions .before .in-limits .ensures,
     )
-    (plan-in-turn _ _ _ _ _ _)
+    (plan-in-turn _ _ _ _ _ _ _ _ _)
 
 pub plan-refusal-spec : {M : Type 1} → statement M
 plan-refusal-spec =
@@ -59,6 +64,7 @@ plan-refusal-spec =
     unless-requires-2
     or-workloads-requires
     or-edges-requires
+    or-flights-requires
     or-constraints-requires
     or-colouring-requires
     returns)

@@ -1,6 +1,6 @@
 //! The baseline: what an expert writes in plain Rust. Neighbours in compressed rows of small numbers, marks with stamps, a queue,
-//! a search that stops as soon as it knows, one running sum for each constraint. It is spared the refusals, the verdicts and the
-//! work memory.
+//! a search that stops as soon as it knows, one running sum for each constraint, for each flight what it adds to the total. It is
+//! spared the refusals, the verdicts and the work memory.
 
 use crate::plans::{distance, Plan};
 
@@ -27,6 +27,79 @@ fn smallest_joined(plan: &Plan, sector_of: &[u8]) -> Vec<u16> {
     (0..parent.len()).map(|v| root(&mut parent, v) as u16).collect()
 }
 
+/// The constraints of kind 5 and, where there are any, the visits of each flight and the flights that visit each region, in
+/// compressed rows, and what each flight adds to the total.
+struct Flights {
+    timed: Vec<[u64; 4]>,
+    first: Vec<usize>,
+    visits: Vec<(u16, u32)>,
+    start: Vec<u16>,
+    visitors: Vec<u8>,
+    price: Vec<u64>,
+}
+
+impl Flights {
+    fn new(plan: &Plan) -> Self {
+        let four = |q: &[u64]| [q[0], q[1], q[2], q[3]];
+        let timed: Vec<_> = plan.constraints.chunks(4).map(four).filter(|q| q[0] == 5).collect();
+        let counts = if timed.is_empty() { &[] } else { &plan.counts[..] };
+        let mut first = vec![0];
+        for &n in counts {
+            first.push(first[first.len() - 1] + n as usize);
+        }
+        let visits: Vec<_> = plan.visits.chunks(2).take(first[counts.len()]).map(|v| (v[0] as u16, v[1] as u32)).collect();
+        let mut start = vec![0; plan.regions as usize + 2];
+        let mut last = vec![0; plan.regions as usize + 1];
+        let mut pairs = vec![];
+        for k in 0..counts.len() {
+            for &(v, _) in &visits[first[k]..first[k + 1]] {
+                if std::mem::replace(&mut last[v as usize], k + 1) != k + 1 {
+                    start[v as usize + 1] += 1;
+                    pairs.push((v, k as u8));
+                }
+            }
+        }
+        for v in 1..start.len() {
+            start[v] += start[v - 1];
+        }
+        let mut end = start.clone();
+        let mut visitors = vec![0; pairs.len()];
+        for (v, k) in pairs {
+            visitors[end[v as usize] as usize] = k;
+            end[v as usize] += 1;
+        }
+        Flights { timed, first, visits, start, visitors, price: vec![0; counts.len()] }
+    }
+
+    fn row(&self, v: usize) -> std::ops::Range<usize> {
+        self.start[v] as usize..self.start[v + 1] as usize
+    }
+
+    fn stretch_price(&self, seconds: u32) -> u64 {
+        self.timed.iter().map(|q| q[3] * distance(q[1], seconds as u64, q[2])).sum()
+    }
+
+    /// What a flight adds to the total: by all its stretches, or by those that visit the region.
+    fn price_of(&self, k: usize, sector_of: &[u8], region: Option<usize>) -> u64 {
+        let (mut price, mut seconds, mut sector, mut counts) = (0, 0, 0, false);
+        for &(v, dwell) in &self.visits[self.first[k]..self.first[k + 1]] {
+            let own = sector_of[v as usize];
+            if own != sector {
+                if counts {
+                    price += self.stretch_price(seconds);
+                }
+                (seconds, sector, counts) = (0, own, region.is_none());
+            }
+            seconds += dwell;
+            counts |= region == Some(v as usize);
+        }
+        if counts {
+            price += self.stretch_price(seconds);
+        }
+        price
+    }
+}
+
 /// All that is kept of a colouring between two moves; regions and sectors are numbered from 1.
 struct Engine<'a> {
     plan: &'a Plan,
@@ -43,6 +116,8 @@ struct Engine<'a> {
     border: u64,
     deviation: u64,
     bounded: [u64; 16],
+    flights: Flights,
+    dwell: u64,
     total: u64,
     mark: Vec<u32>,
     stamp: u32,
@@ -87,6 +162,8 @@ impl<'a> Engine<'a> {
             border: 0,
             deviation: 0,
             bounded: [0; 16],
+            flights: Flights::new(plan),
+            dwell: 0,
             total: 0,
             mark: vec![0; regions + 1],
             stamp: 0,
@@ -117,11 +194,15 @@ impl<'a> Engine<'a> {
                 self.bounded[k] = self.workload[1..].iter().map(|&x| distance(q[1], x, q[2])).sum();
             }
         }
-        self.total = self.total_of(self.all, self.excess, self.border, self.deviation, &self.bounded);
+        for k in 0..self.flights.price.len() {
+            self.flights.price[k] = self.flights.price_of(k, &self.sector_of, None);
+        }
+        self.dwell = self.flights.price.iter().sum();
+        self.total = self.total_of(self.all, self.excess, self.border, self.deviation, &self.bounded, self.dwell);
     }
 
-    fn total_of(&self, all: u64, excess: u64, border: u64, deviation: u64, bounded: &[u64; 16]) -> u64 {
-        let mut total = 0;
+    fn total_of(&self, all: u64, excess: u64, border: u64, deviation: u64, bounded: &[u64; 16], dwell: u64) -> u64 {
+        let mut total = dwell;
         for (k, q) in self.plan.constraints.chunks(4).enumerate() {
             let violation = match q[0] {
                 1 => excess + (distance(q[1], all, q[2]) != 0) as u64,
@@ -252,6 +333,22 @@ impl<'a> Engine<'a> {
         end as i64 - 1 + (smallest != left) as i64
     }
 
+    /// What all flights add to the total once v is in sector d; where that is made, what each of them does.
+    fn dwell_after(&mut self, v: usize, d: u8, make: bool) -> u64 {
+        let mut dwell = self.dwell;
+        let c = std::mem::replace(&mut self.sector_of[v], d);
+        for i in self.flights.row(v) {
+            let k = self.flights.visitors[i] as usize;
+            let price = self.flights.price_of(k, &self.sector_of, None);
+            dwell = dwell + price - self.flights.price[k];
+            if make {
+                self.flights.price[k] = price;
+            }
+        }
+        self.sector_of[v] = c;
+        dwell
+    }
+
     /// The total after giving v to sector d and, where that is made, how many labels are new.
     fn recolour(&mut self, v: usize, d: u8, make: bool) -> (u64, i64) {
         let c = self.sector_of[v];
@@ -289,7 +386,8 @@ impl<'a> Engine<'a> {
                 bounded[k] = bounded[k] + d(x_after) + d(y_after) - d(x) - d(y);
             }
         }
-        let total = self.total_of(all, over, border, deviation, &bounded);
+        let dwell = self.dwell_after(v, d, make);
+        let total = self.total_of(all, over, border, deviation, &bounded, dwell);
         if make {
             self.components[own] = n_after;
             self.components[other] = m_after;
@@ -297,6 +395,7 @@ impl<'a> Engine<'a> {
             self.workload[other] = y_after;
             (self.all, self.excess, self.border, self.deviation) = (all, over, border, deviation);
             self.bounded = bounded;
+            self.dwell = dwell;
             self.total = total;
             relabelled += self.come(v, d, left);
         }
@@ -313,12 +412,16 @@ impl<'a> Engine<'a> {
             }
         }
         let mut sum = 0;
+        for i in self.flights.row(v) {
+            sum += self.flights.price_of(self.flights.visitors[i] as usize, &self.sector_of, Some(v));
+        }
         for q in self.plan.constraints.chunks(4) {
             let part = match q[0] {
                 1 => excess(self.components[c as usize]),
                 2 => border,
                 3 => (self.plan.sectors * x).abs_diff(self.whole),
-                _ => distance(q[1], x, q[2]),
+                4 => distance(q[1], x, q[2]),
+                _ => 0,
             };
             sum += q[3] * part;
         }

@@ -1,9 +1,12 @@
 //! Nanoseconds a move of the proved library, of the baseline and of the library's own method in plain Rust, on the same plans and
-//! lists, one after the other in one run. The rows of all three are compared. After them the reading and the writing of a sheet.
+//! lists, one after the other in one run, without flights and then with them. The rows of all three are compared. After them the
+//! reading and the writing of a sheet.
 
 mod baseline;
+mod flights;
 mod plain_sheet;
 mod plans;
+mod same_flights;
 mod same_method;
 mod sheets;
 
@@ -43,6 +46,8 @@ fn same_method(plan: &Plan, moves: &[u64], left: &mut Left) {
         sectors: plan.sectors,
         workloads: &plan.workloads,
         edges: &plan.edges,
+        counts: &plan.counts,
+        visits: &plan.visits,
         constraints: &plan.constraints,
         colouring: &mut left.colouring,
         moves,
@@ -59,6 +64,8 @@ fn proved(plan: &Plan, moves: &[u64], left: &mut Left) {
         plan.sectors,
         &plan.workloads,
         &plan.edges,
+        &plan.counts,
+        &plan.visits,
         &plan.constraints,
         &mut left.colouring,
         moves,
@@ -69,23 +76,29 @@ fn proved(plan: &Plan, moves: &[u64], left: &mut Left) {
     assert!(answer.is_ok());
 }
 
+/// What a call leaves; `best` is the shortest time so far, in nanoseconds.
+fn run(call: fn(&Plan, &[u64], &mut Left), plan: &Plan, moves: &[u64], best: &mut f64) -> Left {
+    let mut left = empty(plan, moves);
+    let start = Instant::now();
+    call(plan, moves, &mut left);
+    *best = best.min(start.elapsed().as_nanos() as f64);
+    left
+}
+
 /// The shortest time, in nanoseconds, of each of the three on one list.
 fn measure(plan: &Plan, moves: &[u64]) -> [f64; 3] {
     let calls = [baseline, same_method, proved];
     let mut best = [f64::MAX; 3];
     for _ in 0..RUNS {
-        let lefts: Vec<Left> = (calls.iter().zip(&mut best))
-            .map(|(call, best)| {
-                let mut left = empty(plan, moves);
-                let start = Instant::now();
-                call(plan, moves, &mut left);
-                *best = best.min(start.elapsed().as_nanos() as f64);
-                left
-            })
-            .collect();
+        let lefts: Vec<Left> = calls.into_iter().zip(&mut best).map(|(call, best)| run(call, plan, moves, best)).collect();
         assert!(lefts.iter().all(|l| *l == lefts[2]), "the three differ");
     }
     best
+}
+
+fn print_head(plans: &str) {
+    println!("| {plans} | baseline | same method | proved | to baseline | to same method |");
+    println!("|---|---|---|---|---|---|");
 }
 
 fn print(name: &str, unit: &str, times: [f64; 3], moves: usize) {
@@ -99,8 +112,7 @@ fn print(name: &str, unit: &str, times: [f64; 3], moves: usize) {
 
 fn main() {
     let mut random = Random(88172645463325252);
-    println!("| 512 regions, 16 constraints | baseline | same method | proved | to baseline | to same method |");
-    println!("|---|---|---|---|---|---|");
+    print_head("512 regions, 16 constraints");
     for sectors in [64, 8, 2] {
         let plan = plans::grid(&mut random, 16, 32, sectors);
         for (name, kinds) in LISTS {
@@ -120,5 +132,6 @@ fn main() {
         let name = format!("{} regions in {sectors} sectors, probes without the call's start", height * width);
         print(&name, "ns a move", times, LIST);
     }
+    flights::print_all();
     sheets::print_all();
 }

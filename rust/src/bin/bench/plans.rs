@@ -1,12 +1,15 @@
-//! What is measured on: grids of regions numbered at random, with sectors grown from seeds, and moves as a search proposes them.
+//! What is measured on: grids of regions numbered at random, with sectors grown from seeds, flights along their edges, and moves as
+//! a search proposes them.
 
 /// A plan and a colouring of it, as the call takes them.
-#[derive(PartialEq)]
+#[derive(Clone, PartialEq)]
 pub struct Plan {
     pub regions: u64,
     pub sectors: u64,
     pub workloads: Vec<u64>,
     pub edges: Vec<u64>,
+    pub counts: Vec<u64>,
+    pub visits: Vec<u64>,
     pub constraints: Vec<u64>,
     pub colouring: Vec<u64>,
 }
@@ -30,7 +33,7 @@ impl Random {
     }
 }
 
-/// A grid with diagonals: `height` times `width` regions, and 16 constraints of all kinds.
+/// A grid with diagonals: `height` times `width` regions, no flights, and 16 constraints of the kinds 1 to 4.
 pub fn grid(random: &mut Random, height: usize, width: usize, sectors: u64) -> Plan {
     let regions = height * width;
     let mut number: Vec<u64> = (1..=regions as u64).collect();
@@ -52,6 +55,8 @@ pub fn grid(random: &mut Random, height: usize, width: usize, sectors: u64) -> P
         sectors,
         workloads: (0..regions).map(|_| random.below(1_000_001)).collect(),
         edges: edges.concat(),
+        counts: vec![],
+        visits: vec![],
         constraints: (0..16).flat_map(|k| constraint(k, sectors)).collect(),
         colouring: vec![0; regions],
     };
@@ -88,6 +93,21 @@ fn grow_sectors(random: &mut Random, plan: &mut Plan) {
             } else if sector_of[b] == 0 {
                 sector_of[b] = sector_of[a];
             }
+        }
+    }
+}
+
+/// Flights of so many visits each, which go along edges and not straight back, from 10 to 300 seconds a visit.
+pub fn fly(random: &mut Random, plan: &mut Plan, flights: usize, visits: usize) {
+    plan.counts = vec![visits as u64; flights];
+    plan.visits = vec![];
+    for _ in 0..flights {
+        let (mut before, mut region) = (0, 1 + random.below(plan.regions));
+        for _ in 0..visits {
+            plan.visits.extend([region, 10 + random.below(291)]);
+            let own = plan.edges.chunks(3).filter(|e| e[..2].contains(&region));
+            let ahead: Vec<u64> = own.map(|e| e[0] + e[1] - region).filter(|&u| u != before).collect();
+            (before, region) = (region, ahead[random.below(ahead.len() as u64) as usize]);
         }
     }
 }

@@ -1,6 +1,7 @@
 //! The library's own method in plain Rust: the whole call, refusals, verdicts and work memory among it.
 
 use crate::plans::distance;
+use crate::same_flights::Flights;
 
 const MARK: u64 = 255;
 
@@ -17,6 +18,8 @@ pub struct Call<'a> {
     pub sectors: u64,
     pub workloads: &'a [u64],
     pub edges: &'a [u64],
+    pub counts: &'a [u64],
+    pub visits: &'a [u64],
     pub constraints: &'a [u64],
     pub colouring: &'a mut [u64],
     pub moves: &'a [u64],
@@ -44,12 +47,32 @@ fn records(list: &[u64], width: usize, low: u64, high: u64) -> bool {
     list.len().is_multiple_of(width) && within(low, (list.len() / width) as u64, high)
 }
 
-/// Codes 1 to 8.
+/// Code 13.
+fn flights_refusal(regions: u64, counts: &[u64], visits: &[u64]) -> Result<(), Refused> {
+    unless(counts.len() <= 64, 13)?;
+    each(13, counts.iter().map(|&n| within(1, n, 32)))?;
+    unless(visits.len() as u64 == 2 * counts.iter().sum::<u64>(), 13)?;
+    let mut rest = visits;
+    each(
+        13,
+        counts.iter().map(|&n| {
+            let (flight, others) = rest.split_at(2 * n as usize);
+            rest = others;
+            flight.chunks(2).all(|v| within(1, v[0], regions) && within(1, v[1], 86_400))
+        }),
+    )
+}
+
+/// Codes 1 to 8 and, after 5, code 13, with constraints of the kinds 1 to `kinds`.
+#[allow(clippy::too_many_arguments)]
 pub fn plan_refusal(
+    kinds: u64,
     regions: u64,
     sectors: u64,
     workloads: &[u64],
     edges: &[u64],
+    counts: &[u64],
+    visits: &[u64],
     constraints: &[u64],
     colouring: &[u64],
 ) -> Result<(), Refused> {
@@ -67,13 +90,14 @@ pub fn plan_refusal(
             right
         }),
     )?;
+    flights_refusal(regions, counts, visits)?;
     unless(records(constraints, 4, 1, 16), 6)?;
     each(
         7,
         constraints.chunks(4).map(|q| {
-            within(1, q[0], 4)
+            within(1, q[0], kinds)
                 && within(1, q[1], 6)
-                && (q[0] == 1 || q[0] == 4 || q[1] == 1)
+                && (q[0] == 1 || q[0] >= 4 || q[1] == 1)
                 && q[2] <= 100_000_000_000
                 && within(1, q[3], 1000)
         }),
@@ -84,7 +108,8 @@ pub fn plan_refusal(
 
 impl Call<'_> {
     fn refusal(&self) -> Result<(), Refused> {
-        plan_refusal(self.regions, self.sectors, self.workloads, self.edges, self.constraints, self.colouring)?;
+        let Call { regions, sectors, workloads, edges, counts, visits, constraints, .. } = *self;
+        plan_refusal(5, regions, sectors, workloads, edges, counts, visits, constraints, self.colouring)?;
         unless(records(self.moves, 3, 0, 4096), 9)?;
         unless(4 * (self.moves.len() / 3) <= self.rows.len(), 10)?;
         unless(2 * (self.constraints.len() / 4) <= self.verdicts.len(), 11)?;
@@ -173,12 +198,14 @@ struct Engine<'a> {
     whole: u64,
     workloads: &'a [u64],
     constraints: &'a [u64],
+    flights: Flights<'a>,
     table: Neighbours,
     colouring: &'a mut [u64],
     work: &'a mut [u64],
     gauges: [u64; 16],
     queue: [u64; 513],
     figures: Figures,
+    dwell: u64,
     total: u64,
 }
 
@@ -247,12 +274,14 @@ impl<'a> Engine<'a> {
             whole: call.workloads.iter().sum(),
             workloads: call.workloads,
             constraints: call.constraints,
+            flights: Flights::gather(regions, call.counts, call.visits, call.constraints),
             table: Neighbours::gather(regions, call.edges),
             colouring: call.colouring,
             work: call.work,
             gauges: [0; 16],
             queue: [0; 513],
             figures: Figures { components: 0, excess: 0, border: 0, deviation: 0 },
+            dwell: 0,
             total: 0,
         };
         engine.work[..regions + 2 * sectors].fill(0);
@@ -280,6 +309,8 @@ impl<'a> Engine<'a> {
                 *gauge = loads.iter().map(|&x| distance(q[1], x, q[2])).sum();
             }
         }
+        engine.dwell = engine.flights.price(engine.colouring);
+        engine.total = engine.dwell;
         for (&gauge, q) in engine.gauges.iter().zip(engine.constraints.chunks(4)) {
             engine.total += q[3] * violation(engine.figures, gauge, q);
         }
@@ -439,18 +470,19 @@ impl<'a> Engine<'a> {
         0
     }
 
-    fn total_after(&self, figures: Figures, change: &Change) -> u64 {
-        let mut total = 0;
+    fn total_after(&self, figures: Figures, change: &Change, dwell: u64) -> u64 {
+        let mut total = dwell;
         for (&gauge, q) in self.gauges.iter().zip(self.constraints.chunks(4)) {
             total += q[3] * violation(figures, Self::gauge_after(gauge, q, change), q);
         }
         total
     }
 
-    fn settle(&mut self, own: u64, sector: u64, change: Change) {
+    fn settle(&mut self, own: u64, sector: u64, change: Change, dwell: u64) {
         let figures = self.figures_after(&change);
-        self.total = self.total_after(figures, &change);
+        self.total = self.total_after(figures, &change, dwell);
         self.figures = figures;
+        self.dwell = dwell;
         for (gauge, q) in self.gauges.iter_mut().zip(self.constraints.chunks(4)) {
             *gauge = Self::gauge_after(*gauge, q, &change);
         }
@@ -462,10 +494,21 @@ impl<'a> Engine<'a> {
         self.work[at(sector) + s] = change.after.workloads.1;
     }
 
-    fn make_one(&mut self, before: Sides, v: usize, sector: u64) -> (Change, u64) {
+    /// What the flights come to once v is in the sector, where they come to `dwell` now.
+    fn dwell_after(&mut self, v: usize, sector: u64, dwell: u64) -> u64 {
+        let before = self.flights.visitors_price(self.colouring, v);
+        let own = std::mem::replace(&mut self.colouring[v - 1], sector);
+        let after = self.flights.visitors_price(self.colouring, v);
+        self.colouring[v - 1] = own;
+        dwell + after - before
+    }
+
+    /// What changes, what the flights come to, and how many labels are new.
+    fn make_one(&mut self, before: Sides, v: usize, sector: u64, dwell: u64) -> (Change, u64, u64) {
         let meeting = self.meeting_by_labels(v, sector);
+        let dwell = self.dwell_after(v, sector, dwell);
         let (relabelled, pieces) = self.relabel(v, sector);
-        (self.change(before, v, pieces, meeting), relabelled)
+        (self.change(before, v, pieces, meeting), dwell, relabelled)
     }
 
     fn probe_recolour(&mut self, v: usize, sector: u64) -> u64 {
@@ -477,7 +520,8 @@ impl<'a> Engine<'a> {
         let meeting = self.meeting_by_labels(v, sector);
         let pieces = self.pieces_at(v);
         let change = self.change(before, v, pieces, meeting);
-        self.total_after(self.figures_after(&change), &change)
+        let dwell = self.dwell_after(v, sector, self.dwell);
+        self.total_after(self.figures_after(&change), &change, dwell)
     }
 
     fn make_recolour(&mut self, v: usize, sector: u64) -> u64 {
@@ -485,8 +529,8 @@ impl<'a> Engine<'a> {
         if own == sector {
             return 0;
         }
-        let (change, relabelled) = self.make_one(self.sides(own, sector), v, sector);
-        self.settle(own, sector, change);
+        let (change, dwell, relabelled) = self.make_one(self.sides(own, sector), v, sector, self.dwell);
+        self.settle(own, sector, change, dwell);
         relabelled
     }
 
@@ -498,12 +542,14 @@ impl<'a> Engine<'a> {
         let meeting = self.meeting_by_labels(v, other);
         let pieces = self.pieces_at(v);
         let first = self.change(self.sides(own, other), v, pieces, meeting);
+        let dwell = self.dwell_after(v, other, self.dwell);
         self.colouring[v - 1] = other;
         let meeting = self.meeting_anew(w, own);
         let pieces = self.pieces_at(w);
+        let dwell = self.dwell_after(w, own, dwell);
         self.colouring[v - 1] = own;
         let change = first.then(self.change(first.after.turned(), w, pieces, meeting));
-        self.total_after(self.figures_after(&change), &change)
+        self.total_after(self.figures_after(&change), &change, dwell)
     }
 
     fn make_exchange(&mut self, v: usize, w: usize) -> u64 {
@@ -514,9 +560,9 @@ impl<'a> Engine<'a> {
         let regions = self.workloads.len();
         let mut labels = [0; 512];
         labels[..regions].copy_from_slice(&self.work[..regions]);
-        let (first, _) = self.make_one(self.sides(own, other), v, other);
-        let (second, _) = self.make_one(first.after.turned(), w, own);
-        self.settle(own, other, first.then(second));
+        let (first, dwell, _) = self.make_one(self.sides(own, other), v, other, self.dwell);
+        let (second, dwell, _) = self.make_one(first.after.turned(), w, own, dwell);
+        self.settle(own, other, first.then(second), dwell);
         labels[..regions].iter().zip(&self.work[..regions]).filter(|(a, b)| a != b).count() as u64
     }
 
@@ -529,13 +575,14 @@ impl<'a> Engine<'a> {
         for j in self.table.row(v) {
             border += if self.colouring[self.table.near[j] as usize - 1] == own { 0 } else { self.table.areas[j] };
         }
-        let mut sum = 0;
+        let mut sum = self.flights.region_price(self.colouring, v);
         for q in self.constraints.chunks(4) {
             let part = match q[0] {
                 1 => excess,
                 2 => border,
                 3 => (self.sectors * workload).abs_diff(self.whole),
-                _ => distance(q[1], workload, q[2]),
+                4 => distance(q[1], workload, q[2]),
+                _ => 0,
             };
             sum += q[3] * part;
         }
@@ -590,7 +637,7 @@ pub fn call(mut call: Call) -> Result<(u64, u64), Refused> {
         row.copy_from_slice(&engine.step(m[0], m[1], m[2]));
     }
     for ((&gauge, q), verdict) in engine.gauges.iter().zip(engine.constraints.chunks(4)).zip(verdicts.chunks_mut(2)) {
-        let v = violation(engine.figures, gauge, q);
+        let v = if q[0] == 5 { engine.flights.violation(engine.colouring, q) } else { violation(engine.figures, gauge, q) };
         verdict.copy_from_slice(&[(v == 0) as u64, v]);
     }
     engine.work[engine.workloads.len() + 2 * engine.sectors as usize] = engine.figures.border;

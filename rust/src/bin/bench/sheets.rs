@@ -16,6 +16,8 @@ fn empty() -> Plan {
         sectors: 0,
         workloads: vec![0; MOST_REGIONS],
         edges: vec![0; 3 * MOST_EDGES],
+        counts: vec![],
+        visits: vec![],
         constraints: vec![0; 4 * MOST_CONSTRAINTS],
         colouring: vec![0; MOST_REGIONS],
     }
@@ -37,7 +39,7 @@ fn plain_write(plan: &Plan, sheet: &mut [u8; MOST_BYTES]) {
 }
 
 fn proved_write(plan: &Plan, sheet: &mut [u8; MOST_BYTES]) {
-    let Plan { regions, sectors, workloads, edges, constraints, colouring } = plan;
+    let Plan { regions, sectors, workloads, edges, constraints, colouring, .. } = plan;
     let bytes = qirfadhun::write(*regions, *sectors, workloads, edges, constraints, colouring, sheet);
     assert_eq!(bytes, Ok(LARGEST.len()));
 }

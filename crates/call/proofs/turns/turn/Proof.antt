@@ -1,4 +1,5 @@
 -- The move is one of the plan, so that the step answers it, and what it answers is its row.
+use native.Mathlib.Omega.{arith}
 use borrow.Author.Needs.{needs}
 use Rattle.call.specs.Decoded.{move-within}
 use Rattle.call.specs.StateLaws.{answered-opened}
@@ -14,31 +15,31 @@ abbrev made : tie.After-step → tie.After-new
 made c = c .before .before .before .before .before
 
 abbrev began : tie.After-new → tie.Start
-began c = c .before .before .before .before .before .before .before .before .before .before .before .before .before .before .before
+began c = c .before .before .before .before .before .before .before .before .before .before .before .before .before .before .before .before .before .before .before .before .before
 
 mul-at : tie.Need-mul-at
-mul-at c = search needs
+mul-at c = omega (arith, c .before .before .before .before .before .before .before .before .before .before .before .before .before .before .before .before .before .pre .1 .1 .0, c .before .before .before .before .before .before .before .before .before .before .before .before .before .before .before .before .before .good .1 .1 .1 .1 .1 .1 .1 .1 .1 .1 .1 .1 .1 .1 .0)
 
 mul-new : tie.Need-mul-new
-mul-new c = search needs
+mul-new c = omega (arith, c .before .before .before .before .before .before .before .before .before .before .before .before .before .before .before .before .before .pre .1 .1 .0, c .before .before .before .before .before .before .before .before .before .before .before .before .before .before .before .before .before .good .1 .1 .1 .1 .1 .1 .1 .1 .1 .1 .1 .1 .1 .1 .0)
 
 shared-slice-read-new : tie.Need-shared-slice-read-new
 shared-slice-read-new c = search needs
 
 add-new : tie.Need-add-new
-add-new c = search needs
+add-new c = omega (arith, c .before .before .before .before .before .before .before .before .before .before .before .before .before .before .before .before .before .before .pre .1 .1 .0, c .before .before .before .before .before .before .before .before .before .before .before .before .before .before .before .before .before .before .good .1 .1 .1 .1 .1 .1 .1 .1 .1 .1 .1 .1 .1 .1 .0)
 
 mul-new-2 : tie.Need-mul-new-2
-mul-new-2 c = search needs
+mul-new-2 c = omega (arith, c .before .before .before .before .before .before .before .before .before .before .before .before .before .before .before .before .before .before .pre .1 .1 .0, c .before .before .before .before .before .before .before .before .before .before .before .before .before .before .before .before .before .before .good .1 .1 .1 .1 .1 .1 .1 .1 .1 .1 .1 .1 .1 .1 .0)
 
 shared-slice-read-new-2 : tie.Need-shared-slice-read-new-2
 shared-slice-read-new-2 c = search needs
 
 add-new-2 : tie.Need-add-new-2
-add-new-2 c = search needs
+add-new-2 c = omega (arith, c .before .before .before .before .before .before .before .before .before .before .before .before .before .before .before .before .before .before .before .pre .1 .1 .0, c .before .before .before .before .before .before .before .before .before .before .before .before .before .before .before .before .before .before .before .good .1 .1 .1 .1 .1 .1 .1 .1 .1 .1 .1 .1 .1 .1 .0)
 
 mul-new-3 : tie.Need-mul-new-3
-mul-new-3 c = search needs
+mul-new-3 c = omega (arith, c .before .before .before .before .before .before .before .before .before .before .before .before .before .before .before .before .before .before .before .pre .1 .1 .0, c .before .before .before .before .before .before .before .before .before .before .before .before .before .before .before .before .before .before .before .good .1 .1 .1 .1 .1 .1 .1 .1 .1 .1 .1 .1 .1 .1 .0)
 
 shared-slice-read-new-3 : tie.Need-shared-slice-read-new-3
 shared-slice-read-new-3 c = search needs
@@ -50,7 +51,7 @@ step-requires : tie.Need-step-requires
 step-requires c κs =
     let m = c .before .before .before .before in
     let s = began m in
-    (s .pre .0, (s .pre .1 .0, rw (m .new .ensures) (move-within _ _ _ _)))
+    (s .pre .0, (s .pre .1 .0, (rw (m .new .ensures) (move-within _ _ _ _), s .pre .1 .1 .1 .1)))
 
 status-of-requires : tie.Need-status-of-requires
 status-of-requires c κs = search needs
@@ -60,7 +61,7 @@ put-row-requires c κs =
     let a = stepped (c .before) in
     let m = made a in
     let s = began m in
-    (s .pre .1 .1 .1, said-fits (s .pre .0 .limits) (a .step .ensures) (m .new .ensures) (c .before .status-of .ensures) (move-within _ _ _ _))
+    (s .pre .1 .1 .1 .0, said-fits (s .pre .0 .limits) (a .step .ensures) (m .new .ensures) (c .before .status-of .ensures) (move-within _ _ _ _))
 
 same-length : tie.Need-same-length
 same-length c = search needs

@@ -1,8 +1,9 @@
--- What is read at the region's sector and found at its edges is what the region has, and that is weighed.
+-- What is read at the region's sector and found at its edges is what the region has, and that is weighed; the stretches that visit it are priced.
 use native.Mathlib.Omega.{arith}
 use mathlib.Core.Path.{refl}
 use borrow.Author.Needs.{needs}
-use Rattle.engine.specs.Asking.{asking-sector, asking-weighable, asking-fits, asking-weighing, asking-violation}
+use Rattle.engine.specs.Flown.{priced-part, flown-pricing}
+use Rattle.engine.specs.Asking.{asking-sector, asking-weighable, asking-fits, asking-weighing, asking-sum, asking-violation}
 use Rattle.engine.proofs.ask.region_violation.Statement.{statement}
 use Rattle.engine.proofs.ask.region_violation.Tie as tie
 
@@ -16,43 +17,49 @@ shared-slice-read-own : tie.Need-shared-slice-read-own
 shared-slice-read-own c = search needs
 
 add-at : tie.Need-add-at
-add-at c = omega (arith, asking-sector (c .before .before .before .before .before .before .before .before .before .pre))
+add-at c = omega (arith, asking-sector (c .before .before .before .before .before .before .before .before .before .before .before .before .before .before .before .pre .0), c .before .before .before .before .before .before .before .before .before .before .before .before .before .before .before .pre .0 .kept .room, c .before .before .before .before .before .before .before .before .before .before .before .before .before .before .before .pre .0 .kept .limits)
 
 sub-at : tie.Need-sub-at
 sub-at c = search needs
 
 add-workload : tie.Need-add-workload
-add-workload c = omega (arith, asking-sector (c .before .before .before .before .before .before .before .before .before .pre))
+add-workload c = omega (arith, asking-sector (c .before .before .before .before .before .before .before .before .before .before .before .before .before .before .before .pre .0), c .before .before .before .before .before .before .before .before .before .before .before .before .before .before .before .pre .0 .kept .room, c .before .before .before .before .before .before .before .before .before .before .before .before .before .before .before .pre .0 .kept .limits)
 
 mul-workload : tie.Need-mul-workload
-mul-workload c = omega (arith, asking-sector (c .before .before .before .before .before .before .before .before .before .pre))
+mul-workload c = omega (arith, asking-sector (c .before .before .before .before .before .before .before .before .before .before .before .before .before .before .before .pre .0), c .before .before .before .before .before .before .before .before .before .before .before .before .before .before .before .pre .0 .kept .room, c .before .before .before .before .before .before .before .before .before .before .before .before .before .before .before .pre .0 .kept .limits)
 
 shared-slice-read-workload : tie.Need-shared-slice-read-workload
-shared-slice-read-workload c = omega (arith, asking-sector (c .before .before .before .before .before .before .before .before .before .before .pre))
+shared-slice-read-workload c = omega (arith, asking-sector (c .before .before .before .before .before .before .before .before .before .before .before .before .before .before .before .before .pre .0), c .before .before .before .before .before .before .before .before .before .before .before .before .before .before .before .before .pre .0 .kept .room, c .before .before .before .before .before .before .before .before .before .before .before .before .before .before .before .before .pre .0 .kept .limits)
 
 mul-excess : tie.Need-mul-excess
-mul-excess c = omega (arith, asking-sector (c .before .before .before .before .before .before .before .before .before .before .pre))
+mul-excess c = omega (arith, asking-sector (c .before .before .before .before .before .before .before .before .before .before .before .before .before .before .before .before .pre .0), c .before .before .before .before .before .before .before .before .before .before .before .before .before .before .before .before .pre .0 .kept .room, c .before .before .before .before .before .before .before .before .before .before .before .before .before .before .before .before .pre .0 .kept .limits)
 
 shared-slice-read-excess : tie.Need-shared-slice-read-excess
-shared-slice-read-excess c = omega (arith, asking-sector (c .before .before .before .before .before .before .before .before .before .before .before .pre))
+shared-slice-read-excess c = omega (arith, asking-sector (c .before .before .before .before .before .before .before .before .before .before .before .before .before .before .before .before .before .pre .0), c .before .before .before .before .before .before .before .before .before .before .before .before .before .before .before .before .before .pre .0 .kept .room, c .before .before .before .before .before .before .before .before .before .before .before .before .before .before .before .before .before .pre .0 .kept .limits)
 
 excess-requires : tie.Need-excess-requires
 excess-requires c κs = search needs
 
 border-at-requires : tie.Need-border-at-requires
-border-at-requires c κs = asking-weighable (c .before .before .before .before .before .before .before .before .before .before .before .before .pre)
+border-at-requires c κs = asking-weighable (c .before .before .before .before .before .before .before .before .before .before .before .before .before .before .before .before .before .before .pre .0)
 
 mul-apart : tie.Need-mul-apart
-mul-apart c = record { fits = asking-fits (c .before .before .before .before .before .before .before .before .before .before .before .before .before .pre) }
+mul-apart c = record { fits = asking-fits (c .before .before .before .before .before .before .before .before .before .before .before .before .before .before .before .before .before .before .before .pre .0) }
 
 apart-requires : tie.Need-apart-requires
 apart-requires c κs = search needs
 
+price-visitors-requires : tie.Need-price-visitors-requires
+price-visitors-requires c κs = let s = c .before .before .before .before .before .before .before .before .before .before .before .before .before .before .before .before .before .before .before .before .pre in (flown-pricing (s .0 .kept .coloured) (s .1), rw (s .0 .kept .coloured .size) (s .0 .region))
+
 weigh-requires : tie.Need-weigh-requires
-weigh-requires c κs = asking-weighing (c .before .before .before .before .before .before .before .before .before .before .before .before .before .before .pre) (c .before .before .excess .ensures) (c .before .border-at .ensures) (c .apart .ensures) _ refl
+weigh-requires c κs = asking-weighing (c .before .before .before .before .before .before .before .before .before .before .before .before .before .before .before .before .before .before .before .before .before .pre .0) (c .before .before .before .excess .ensures) (c .before .before .border-at .ensures) (c .before .apart .ensures) _ refl
+
+add-result : tie.Need-add-result
+add-result c = omega (arith, asking-sum (c .before .before .before .before .before .before .before .before .before .before .before .before .before .before .before .before .before .before .before .before .before .before .pre .0) (c .before .before .before .before .excess .ensures) (c .before .before .before .border-at .ensures) (c .before .before .apart .ensures) _ refl (c .weigh .ensures) (priced-part (c .before .before .before .before .before .before .before .before .before .before .before .before .before .before .before .before .before .before .before .before .before .before .pre .1 .priced) _ _ (c .before .price-visitors .ensures)))
 
 returns : tie.Need-returns
-returns c = asking-violation (c .before .before .before .before .before .before .before .before .before .before .before .before .before .before .before .pre) (c .before .before .before .excess .ensures) (c .before .before .border-at .ensures) (c .before .apart .ensures) _ refl (c .weigh .ensures)
+returns c = asking-violation (c .before .before .before .before .before .before .before .before .before .before .before .before .before .before .before .before .before .before .before .before .before .before .pre .0) (c .before .before .before .before .excess .ensures) (c .before .before .before .border-at .ensures) (c .before .before .apart .ensures) _ refl (c .weigh .ensures) (priced-part (c .before .before .before .before .before .before .before .before .before .before .before .before .before .before .before .before .before .before .before .before .before .before .pre .1 .priced) _ _ (c .before .price-visitors .ensures))
 
 pub region-violation-spec : {M : Type 1} → statement M
 region-violation-spec =
@@ -72,5 +79,7 @@ region-violation-spec =
     border-at-requires
     mul-apart
     apart-requires
+    price-visitors-requires
     weigh-requires
+    add-result
     returns)

@@ -1,10 +1,10 @@
--- What stands in the work memory and what the look finds make the change; the look leaves the colouring as it was.
+-- What stands in the work memory, what the look finds and what the flights cost make the change; both leave the colouring as it was.
 use borrow.Author.Needs.{needs}
 use native.Mathlib.Omega.{arith}
-use mathlib.Core.Path.{sym}
+use mathlib.Core.Path.{sym, _∙_}
 use lib.Seq.{length-take-le}
 use Rattle.engine.specs.Memory.{kept-labels}
-use Rattle.engine.specs.Turning.{turning-placed, turning-sides, turning-looking, turning-movable, turning-turns}
+use Rattle.engine.specs.Turning.{turning-placed, turning-sides, turning-looking, turning-pricing, turning-swing, turning-movable, turning-turns}
 use Rattle.engine.proofs.turn.change_at.Statement.{statement}
 use Rattle.engine.proofs.turn.change_at.Tie as tie
 
@@ -18,7 +18,7 @@ slice-read-sides-in : tie.Need-slice-read-sides-in
 slice-read-sides-in c = search needs
 
 sides-in-requires : tie.Need-sides-in-requires
-sides-in-requires c κs = let s = c .before .before .before .before .before .before .before .before .before .before .pre in turning-placed (s .0) (s .1)
+sides-in-requires c κs = let s = c .before .before .before .before .before .before .before .before .before .before .before .before .before .before .before .before .pre in turning-placed (s .0) (s .1 .0)
 
 sub-workload : tie.Need-sub-workload
 sub-workload c = search needs
@@ -30,15 +30,18 @@ shared-slice-read-workload : tie.Need-shared-slice-read-workload
 shared-slice-read-workload c = search needs
 
 slice-aggregate-look-at : tie.Need-slice-aggregate-look-at
-slice-aggregate-look-at c = let s = c .before .before .before .before .before .before .before .before .before .before .before .before .before in sym (length-take-le _ (s .args .work .now) (omega (arith, s .pre .1 .room)))
+slice-aggregate-look-at c = sym (length-take-le _ (c .before .before .before .before .before .before .before .before .before .before .before .before .before .before .before .before .before .before .before .args .work .now) (omega (arith, c .before .before .before .before .before .before .before .before .before .before .before .before .before .before .before .before .before .before .before .pre .1 .0 .room)))
 
 look-at-requires : tie.Need-look-at-requires
-look-at-requires c κs = let s = c .before .before .before .before .before .before .before .before .before .before .before .before .before .before .before .pre in (turning-looking (s .0), kept-labels (s .1))
+look-at-requires c κs = let s = c .before .before .before .before .before .before .before .before .before .before .before .before .before .before .before .before .before .before .before .before .before .pre in (turning-looking (s .0), kept-labels (s .1 .0))
+
+swing-at-requires : tie.Need-swing-at-requires
+swing-at-requires c κs = let s = c .before .before .before .before .before .before .before .before .before .before .before .before .before .before .before .before .before .before .before .before .before .before .before .before .before .before .before .pre in turning-pricing (s .0) (s .1 .1) (c .before .before .before .before .before .look-at .ensures .1)
 
 change-of-requires : tie.Need-change-of-requires
 change-of-requires c κs =
-    let s = c .before .before .before .before .before .before .before .before .before .before .before .before .before .before .before .before .before .before .before .before .pre in
-    turning-movable (s .0) (turning-sides (s .0) (s .1) (c .before .before .before .before .before .before .before .before .before .sides-in .ensures)) (c .before .before .before .before .look-at .ensures .0)
+    let s = c .before .before .before .before .before .before .before .before .before .before .before .before .before .before .before .before .before .before .before .before .before .before .before .before .before .before .before .before .before .before .pre in
+    turning-movable (s .0) (turning-sides (s .0) (s .1 .0) (c .before .before .before .before .before .before .before .before .before .before .before .before .before .sides-in .ensures)) (c .before .before .before .before .before .before .before .before .look-at .ensures .0)
 
 same-length : tie.Need-same-length
 same-length c = search needs
@@ -48,9 +51,12 @@ same-length-2 c = search needs
 
 returns : tie.Need-returns
 returns c =
-    let s = c .before .before .before .before .before .before .before .before .before .before .before .before .before .before .before .before .before .before .before .before .before .pre in
-    let look = c .before .before .before .before .before .look-at .ensures in
-    (turning-turns (s .0) (turning-sides (s .0) (s .1) (c .before .before .before .before .before .before .before .before .before .before .sides-in .ensures)) (look .0) (c .change-of .ensures), look .1)
+    let s = c .before .before .before .before .before .before .before .before .before .before .before .before .before .before .before .before .before .before .before .before .before .before .before .before .before .before .before .before .before .before .before .pre in
+    let look = c .before .before .before .before .before .before .before .before .before .look-at .ensures in
+    let swing = c .before .before .before .swing-at .ensures in (
+      turning-turns (s .0) (turning-sides (s .0) (s .1 .0) (c .before .before .before .before .before .before .before .before .before .before .before .before .before .before .sides-in .ensures)) (look .0) (turning-swing (s .0) (s .1 .1) (look .1) (swing .0)) (c .change-of .ensures),
+      swing .1 ∙ look .1,
+    )
 
 pub change-at-spec : {M : Type 1} → statement M
 change-at-spec =
@@ -65,6 +71,7 @@ change-at-spec =
     shared-slice-read-workload
     slice-aggregate-look-at
     look-at-requires
+    swing-at-requires
     change-of-requires
     same-length
     same-length-2

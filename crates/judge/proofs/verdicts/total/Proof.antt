@@ -44,9 +44,15 @@ loop-again c =
     let l = c .before .before .loop in
     summed-turn (l .inv) (drop-places _ (l .k) (c .before .loop-test .taken)) (c .weighted-at .ensures)
 
+add-result : tie.Need-add-result Inv-loop μ-loop
+unfolding totalBy
+add-result c =
+    let l = c .before .before .loop in
+    omega (arith, summed-end (l .inv) (rw length-from (c .before .loop-test .left)), total-bound (c .before .before .before .before .before .pre))
+
 returns : tie.Need-returns Inv-loop μ-loop
 unfolding totalBy
-returns c = summed-end (c .before .loop .inv) (rw length-from (c .loop-test .left))
+returns c = rw (summed-end (c .before .before .loop .inv) (rw length-from (c .before .loop-test .left)))
 
 pub total-spec : {M : Type 1} → statement M
 total-spec =
@@ -60,4 +66,5 @@ total-spec =
     add-k
     loop-less
     loop-again
+    add-result
     returns)

@@ -6,7 +6,7 @@ use mathlib.Core.Path.{_≡_, sym, ap, _∙_}
 use borrow.Author.Needs.{needs}
 use Rattle.lists.specs.Tests.{bit-le}
 use Rattle.terms.specs.Distance.{stands}
-use Rattle.meaning.specs.Holds.{by-kind-1, by-kind-2, by-kind-3, by-kind-4}
+use Rattle.meaning.specs.Holds.{by-kind-1, by-kind-2, by-kind-3, by-kind-late}
 use Rattle.judge.specs.Figures.{violationBy}
 use Rattle.judge.proofs.verdicts.violation.Statement.{statement}
 use Rattle.judge.proofs.verdicts.violation.Tie as tie
@@ -23,27 +23,26 @@ returns : tie.Need-returns
 unfolding violationBy
 returns c =
     ap (λ n. n + c .before .before .before .args .figures .excess) (c .before .missed .ensures)
-    ∙ sym (by-kind-1 _ _ _ _ (c .before .before .if1 .taken))
+    ∙ sym (by-kind-1 _ _ _ _ _ (c .before .before .if1 .taken))
 
 excess-requires : tie.Need-excess-requires
 excess-requires c κs = search needs
 
 returns-2 : tie.Need-returns-2
 unfolding violationBy
-returns-2 c = c .excess .ensures ∙ sym (by-kind-2 _ _ _ _ (c .before .if2 .taken))
+returns-2 c = c .excess .ensures ∙ sym (by-kind-2 _ _ _ _ _ (c .before .if2 .taken))
 
 excess-requires-2 : tie.Need-excess-requires-2
 excess-requires-2 c κs = search needs
 
 returns-3 : tie.Need-returns-3
 unfolding violationBy
-returns-3 c = c .excess2 .ensures ∙ sym (by-kind-3 _ _ _ _ (c .before .if3 .taken))
+returns-3 c = c .excess2 .ensures ∙ sym (by-kind-3 _ _ _ _ _ (c .before .if3 .taken))
 
 returns-4 : tie.Need-returns-4
 unfolding violationBy
 returns-4 c =
-    let four : c .before .before .before .args .kind ≡ 4 = omega arith in
-    sym (by-kind-4 _ _ _ _ four)
+    sym (by-kind-late _ _ _ _ (omega arith) (omega arith))
 
 pub violation-spec : {M : Type 1} → statement M
 violation-spec =

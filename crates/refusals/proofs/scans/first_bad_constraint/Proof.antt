@@ -9,10 +9,10 @@ use Rattle.refusals.proofs.scans.first_bad_constraint.Statement.{statem
 use Rattle.refusals.proofs.scans.first_bad_constraint.Tie as tie
 
 abbrev Inv-loop : tie.InvT-loop
-Inv-loop constraints count constraint₀ constraint = Scan (length constraints / constraintLength) (constraintRight constraints) constraint
+Inv-loop kinds constraints count constraint₀ constraint = Scan (length constraints / constraintLength) (constraintRight kinds constraints) constraint
 
 abbrev μ-loop : tie.MeasureT-loop
-μ-loop constraints count constraint₀ constraint = length constraints / constraintLength - constraint
+μ-loop kinds constraints count constraint₀ constraint = length constraints / constraintLength - constraint
 
 loop-holds : tie.Need-loop-holds Inv-loop μ-loop
 loop-holds c = scan-start _ _

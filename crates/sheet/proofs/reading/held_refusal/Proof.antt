@@ -6,8 +6,8 @@ use borrow.Author.Needs.{needs}
 use Rattle.sheet.proofs.reading.held_refusal.Statement.{statement}
 use Rattle.sheet.proofs.reading.held_refusal.Tie as tie
 
-plan-refusal-requires : tie.Need-plan-refusal-requires
-plan-refusal-requires c κs = search needs
+contents-refusal-requires : tie.Need-contents-refusal-requires
+contents-refusal-requires c κs = search needs
 
 or-at-requires : tie.Need-or-at-requires
 or-at-requires c κs = search needs
@@ -19,9 +19,9 @@ returns : tie.Need-returns
 unfolding inTurn
 returns c =
     let a = c .before .before .before .before .before .before .before .args in
-    rw (c .unless .ensures, c .before .or-at .ensures, c .before .before .plan-refusal .ensures)
+    rw (c .unless .ensures, c .before .or-at .ensures, c .before .before .contents-refusal .ensures)
     (in-turn (lastRows (contents (a .counts .regions) (a .counts .sectors) (a .workloads .now) (a .edges .now) (a .constraints .now) (a .colouring .now)) (a .room)) tt)
 
 pub held-refusal-spec : {M : Type 1} → statement M
 held-refusal-spec =
-    tie.close (tie.spec plan-refusal-requires or-at-requires unless-requires returns)
+    tie.close (tie.spec contents-refusal-requires or-at-requires unless-requires returns)

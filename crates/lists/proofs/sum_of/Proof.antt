@@ -5,9 +5,9 @@ use mathlib.Core.Path.{refl}
 use borrow.Author.Needs.{needs}
 use lib.ListN.{length}
 use lib.Seq.{drop-cons}
 use Rattle.lists.specs.Loops.{Summed, summed-start, summed-room, summed-turn, summed-end}
-use Rattle.judge.proofs.tallies.sum_of.Statement.{statement}
-use Rattle.judge.proofs.tallies.sum_of.Tie as tie
+use Rattle.lists.proofs.sum_of.Statement.{statement}
+use Rattle.lists.proofs.sum_of.Tie as tie
 
 abbrev Inv-loop : tie.InvT-loop
 Inv-loop numbers sum₀ i₀ sum i = Summed numbers (λ n. n) i sum

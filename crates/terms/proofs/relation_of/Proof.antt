@@ -1,8 +1,8 @@
 -- A code of 1 to 6 is not refused, and the relation that it makes has it.
 use borrow.Author.Needs.{needs}
 use Rattle.terms.specs.Relations.{relation-made, relation-refused}
-use Rattle.judge.proofs.measures.relation_of.Statement.{statement}
-use Rattle.judge.proofs.measures.relation_of.Tie as tie
+use Rattle.terms.proofs.relation_of.Statement.{statement}
+use Rattle.terms.proofs.relation_of.Tie as tie
 
 new-requires : tie.Need-new-requires
 new-requires c κs = search needs

@@ -1,0 +1,60 @@
+-- The flights of a plan as the engine has them: the constraints of kind 5 picked out, and the flights that visit each region.
+-- Assumes nothing.
+use Prim.Native.Nat.{ℕ, _<_}
+use mathlib.Core.Path.{_≡_, refl, sym, ap, _∙_}
+use mathlib.Core.List.{List}
+use mathlib.Core.Bool.{Bool, true, false}
+use lib.ListN.{length}
+use Rattle.meaning.specs.Plan.{Visit, Constraint, Plan, Coloured, flightsOf, constraintsOf}
+use Rattle.meaning.specs.Moves.{recolour}
+use Rattle.meaning.specs.Prices.{flightsPrice, visitorsPrice, dwellTotal}
+use Rattle.meaning.specs.Prices as meaning
+use Rattle.meaning.specs.PriceLaws.{dwell-total, visitors-empty}
+use Rattle.flights.specs.Flying.{Flying, Timing}
+use Rattle.visitors.specs.Visitors.{Visitors, Pricing}
+use Rattle.change.specs.declared.Swing.{Swing}
+use Rattle.change.specs.Changed.{costAt}
+
+-- the flat lists hold the plan's flights and its constraints of kind 5
+pub record Priced (P : Plan) (timed counts visits : List ℕ) : Type 0 where
+  pub flying : Flying (P .R) counts visits
+  pub timing : Timing timed
+  pub flights : P .flights ≡ flightsOf counts visits
+  pub picked : constraintsOf timed ≡ meaning.timed (P .constraints)
+
+-- where there are such constraints, it is known which flights visit each region
+pub record Flown (P : Plan) (timed counts visits visited flights firsts : List ℕ) : Type 0 where
+  pub priced : Priced P timed counts visits
+  pub table : 0 < length timed → Visitors (P .R) counts visits visited flights firsts
+
+-- what the flights that visit region v cost before and after it is given to sector d
+abbrev pub swingBy : List Constraint → List (List Visit) → List ℕ → ℕ → ℕ → Swing
+swingBy ks flights col v d =
+    record { gained = visitorsPrice ks (recolour col v d) true v flights; lost = visitorsPrice ks col true v flights }
+
+-- with no constraint of kind 5 they cost nothing
+pub swing-empty : (timed : List ℕ) → length timed ≡ 0 → (flights : List (List Visit)) (col : List ℕ) (v d : ℕ) → record { gained = 0; lost = 0 } ≡ swingBy (constraintsOf timed) flights col v d
+swing-empty timed e flights col v d =
+    rw (visitors-empty timed e (recolour col v d) true v flights, visitors-empty timed e col true v flights)
+
+module _ {P : Plan} {timed counts visits : List ℕ} (p : Priced P timed counts visits) (col : List ℕ) where
+  -- the price of all flights is what kind 5 adds to the total
+  pub priced-total : {n : ℕ} → n ≡ flightsPrice (constraintsOf timed) col (flightsOf counts visits) → n ≡ dwellTotal P col
+  priced-total e = e ∙ rw (p .picked, ← p .flights) (sym (dwell-total P col))
+
+  -- what the flights that visit a region cost before and after it is given to a sector is that of the plan
+  pub priced-swing : (v d : ℕ) {s : Swing} → s ≡ swingBy (constraintsOf timed) (flightsOf counts visits) col v d → s ≡ record { gained = costAt P (recolour col v d) v; lost = costAt P col v }
+  priced-swing v d e = e ∙ rw (p .picked, ← p .flights)
+
+  -- and so is what the stretches cost that visit it
+  pub priced-part : (v : ℕ) {n : ℕ} → n ≡ visitorsPrice (constraintsOf timed) col false v (flightsOf counts visits) → n ≡ visitorsPrice (meaning.timed (P .constraints)) col false v (P .flights)
+  priced-part v e = e ∙ rw (p .picked, ← p .flights)
+
+module _ {P : Plan} {timed counts visits col : List ℕ} (k : Coloured P col) where
+  -- all flights can be priced
+  pub priced-flying : Priced P timed counts visits → {col′ : List ℕ} → col′ ≡ col → Flying (length col′) counts visits
+  priced-flying p same = rw (same, k .size) (p .flying)
+
+  -- and those that visit a region
+  pub flown-pricing : {visited flights firsts : List ℕ} → Flown P timed counts visits visited flights firsts → Pricing (length col) timed counts visits visited flights firsts
+  flown-pricing f = rw (k .size) (record { timing = f .priced .timing; flying = f .priced .flying; table = f .table })

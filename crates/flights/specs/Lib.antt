@@ -1,0 +1,6 @@
+pub mod Flying
+pub mod Constraints
+pub mod FirstStretch
+pub mod Priced
+pub mod Picked
+pub mod Gauged

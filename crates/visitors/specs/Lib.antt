@@ -1,0 +1,9 @@
+pub mod Flat
+pub mod Hops
+pub mod Left
+pub mod HopLaws
+pub mod Laid
+pub mod Visitors
+pub mod Once
+pub mod Row
+pub mod Along
