@@ -1,6 +1,6 @@
 -- The arrays that a call keeps of its own: their fronts are as long as the plan asks, and hold its neighbours, its constraints of kind 5 and the flights that visit each region.
 -- Assumes nothing.
-use Prim.Native.Nat.{ℕ, _+_, _-_, _*_, _/_, _≤_, _<_}
+use Prim.Native.Nat.{ℕ, _+_, _-_, _*_, _/_, _≤_}
 use native.Mathlib.Nat.{le-trans}
 use native.Mathlib.Omega.{arith}
 use mathlib.Core.Path.{_≡_, refl, sym, ap, _∙_}

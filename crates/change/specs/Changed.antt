@@ -85,11 +85,16 @@ faces-bound {P} l col v d = area-bound (edges-small P l) (leadsTo (λ u. eqb (at
 abbrev pub costAt : Plan → List ℕ → ℕ → ℕ
 costAt P col v = visitorsPrice (timed (P .constraints)) col true v (P .flights)
 
+-- what they gain and lose once it is given to another sector
+pub record Costs (P : Plan) (col : List ℕ) (v d : ℕ) (s : Swing) : Type 0 where
+  pub sum : costAt P (recolour col v d) v + s .lost ≡ costAt P col v + s .gained
+  pub gained : s .gained ≤ costAt P (recolour col v d) v
+
 -- a region given to another sector is a change, where the numbers are those of the two colourings, of the region's faces and of the flights that visit it
 pub changed-recolour : {P : Plan} {col : List ℕ} {v d : ℕ} {c : Change} → Limits P → Coloured P col → In (P .R) v → In (P .S) d → d ≢ at col v
     → c .before ≡ sidesOf P col (at col v) d → c .after ≡ sidesOf P (recolour col v d) (at col v) d
     → c .border ≡ record { gained = areaTo (P .edges) (lift col v) v (at col v); lost = areaTo (P .edges) (lift col v) v d }
-    → c .dwell ≡ record { gained = costAt P (recolour col v d) v; lost = costAt P col v }
+    → Costs P col v d (c .dwell)
     → Changed P col (recolour col v d) (at col v) d c
 changed-recolour {P} {col} {v} {d} l k i j ne before after border dwell =
     record {
@@ -101,7 +106,7 @@ changed-recolour {P} {col} {v} {d} l k i j ne before after border dwell =
       after = after;
       others = λ e h n m. (ncc-rest l k i j ne e h m n, load-rest k i j ne e h m n);
       border = rw border (record { sum = border-recolour l k i j; gained = omega (arith, faces-bound l (lift col v) v (at col v)) });
-      dwell = rw dwell (record { sum = dwell-recolour l i col d; gained = omega (arith, cost-bound l (recolour col v d) true v) });
+      dwell = record { sum = omega (arith, dwell .sum, dwell-recolour l i col d); gained = omega (arith, dwell .gained, cost-bound l (recolour col v d) true v) };
     }
 
 module _ {x y z B : ℕ} {first second : Swing} (f : Swung x y B first) (s : Swung y z B second) where

@@ -16,7 +16,6 @@ use Rattle.meaning.specs.Plan.{Constraint, Plan, Limits, ConstraintLimits, Colo
 use Rattle.meaning.specs.Kinds.{whole, border, counts, loads, deviation, bounded, total}
 use Rattle.meaning.specs.Components.{counts-length, counts-at, loads-length, loads-at, ncc-sum}
 use Rattle.meaning.specs.Bounds.{ncc-bound, load-bound, whole-bound, border-bound}
-use Rattle.meaning.specs.Prices.{dwellTotal}
 use Rattle.meaning.specs.PriceLaws.{dwell-total-bound}
 use Rattle.judge.specs.Figures.{figuresOf, gaugeOf, gauges, constraintCount, totalBy}
 use Rattle.judge.specs.FigureLaws.{gauges-listOf, gauge-at, total-by}

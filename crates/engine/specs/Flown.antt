@@ -1,19 +1,19 @@
 -- The flights of a plan as the engine has them: the constraints of kind 5 picked out, and the flights that visit each region.
 -- Assumes nothing.
 use Prim.Native.Nat.{ℕ, _<_}
-use mathlib.Core.Path.{_≡_, refl, sym, ap, _∙_}
+use mathlib.Core.Path.{_≡_, sym, _∙_}
 use mathlib.Core.List.{List}
-use mathlib.Core.Bool.{Bool, true, false}
+use mathlib.Core.Bool.{false}
 use lib.ListN.{length}
-use Rattle.meaning.specs.Plan.{Visit, Constraint, Plan, Coloured, flightsOf, constraintsOf}
-use Rattle.meaning.specs.Moves.{recolour}
+use Rattle.meaning.specs.Plan.{Plan, Coloured, flightsOf, constraintsOf}
 use Rattle.meaning.specs.Prices.{flightsPrice, visitorsPrice, dwellTotal}
 use Rattle.meaning.specs.Prices as meaning
-use Rattle.meaning.specs.PriceLaws.{dwell-total, visitors-empty}
+use Rattle.meaning.specs.PriceLaws.{dwell-total}
 use Rattle.flights.specs.Flying.{Flying, Timing}
 use Rattle.visitors.specs.Visitors.{Visitors, Pricing}
+use Rattle.visitors.specs.AlongBoth.{VisitorsDiffer}
 use Rattle.change.specs.declared.Swing.{Swing}
-use Rattle.change.specs.Changed.{costAt}
+use Rattle.change.specs.Changed.{Costs}
 
 -- the flat lists hold the plan's flights and its constraints of kind 5
 pub record Priced (P : Plan) (timed counts visits : List ℕ) : Type 0 where
@@ -27,24 +27,14 @@ pub record Flown (P : Plan) (timed counts visits visited flights firsts : List �
   pub priced : Priced P timed counts visits
   pub table : 0 < length timed → Visitors (P .R) counts visits visited flights firsts
 
--- what the flights that visit region v cost before and after it is given to sector d
-abbrev pub swingBy : List Constraint → List (List Visit) → List ℕ → ℕ → ℕ → Swing
-swingBy ks flights col v d =
-    record { gained = visitorsPrice ks (recolour col v d) true v flights; lost = visitorsPrice ks col true v flights }
-
--- with no constraint of kind 5 they cost nothing
-pub swing-empty : (timed : List ℕ) → length timed ≡ 0 → (flights : List (List Visit)) (col : List ℕ) (v d : ℕ) → record { gained = 0; lost = 0 } ≡ swingBy (constraintsOf timed) flights col v d
-swing-empty timed e flights col v d =
-    rw (visitors-empty timed e (recolour col v d) true v flights, visitors-empty timed e col true v flights)
-
 module _ {P : Plan} {timed counts visits : List ℕ} (p : Priced P timed counts visits) (col : List ℕ) where
   -- the price of all flights is what kind 5 adds to the total
   pub priced-total : {n : ℕ} → n ≡ flightsPrice (constraintsOf timed) col (flightsOf counts visits) → n ≡ dwellTotal P col
   priced-total e = e ∙ rw (p .picked, ← p .flights) (sym (dwell-total P col))
 
-  -- what the flights that visit a region cost before and after it is given to a sector is that of the plan
-  pub priced-swing : (v d : ℕ) {s : Swing} → s ≡ swingBy (constraintsOf timed) (flightsOf counts visits) col v d → s ≡ record { gained = costAt P (recolour col v d) v; lost = costAt P col v }
-  priced-swing v d e = e ∙ rw (p .picked, ← p .flights)
+  -- what the flights that visit a region gain and lose is that of the plan
+  pub priced-costs : (v d : ℕ) {s : Swing} → VisitorsDiffer (constraintsOf timed) col v d (flightsOf counts visits) (record { before = s .lost; after = s .gained }) → Costs P col v d s
+  priced-costs v d e = let f = rw (p .picked, ← p .flights) at e in record { sum = f .sum; gained = f .after }
 
   -- and so is what the stretches cost that visit it
   pub priced-part : (v : ℕ) {n : ℕ} → n ≡ visitorsPrice (constraintsOf timed) col false v (flightsOf counts visits) → n ≡ visitorsPrice (meaning.timed (P .constraints)) col false v (P .flights)

@@ -21,15 +21,16 @@ use Rattle.neighbours.specs.Net.{table-net}
 use Rattle.search.specs.declared.Look.{Look}
 use Rattle.search.specs.Looking.{Looking, Looked}
 use Rattle.visitors.specs.Visitors.{Pricing}
+use Rattle.visitors.specs.AlongBoth.{VisitorsDiffer}
 use Rattle.change.specs.declared.Sides.{Sides}
 use Rattle.change.specs.declared.Swing.{Swing}
 use Rattle.change.specs.declared.Change.{Change}
-use Rattle.change.specs.Changed.{sidesOf, Changed, Single, faces-bound, costAt, changed-recolour}
+use Rattle.change.specs.Changed.{sidesOf, Changed, Single, faces-bound, Costs, changed-recolour}
 use Rattle.relabel.specs.Recolouring.{Recolourable}
 use Rattle.engine.specs.declared.Standing.{Standing}
 use Rattle.engine.specs.declared.turn.Turned.{Turned}
 use Rattle.engine.specs.State.{Setting, Ready}
-use Rattle.engine.specs.Flown.{Flown, swingBy, priced-swing, flown-pricing}
+use Rattle.engine.specs.Flown.{Flown, priced-costs, flown-pricing}
 use Rattle.engine.specs.Memory.{Placed, sidesIn, Kept, kept-sides}
 
 -- the numbers that change do not fall below 0 and do not get too large
@@ -150,9 +151,9 @@ module _ {P : Plan} {start near areas col q : List ℕ} {v d : ℕ} (t : Turning
     pub turning-pricing : Pricing (length col′) timed counts visits visited flights firsts × In (length col′) v
     turning-pricing = rw same (flown-pricing coloured f, rw (coloured .size) (t .region))
 
-    -- and what they cost before and after is that of the plan
-    pub turning-swing : {s : Swing} → s ≡ swingBy (constraintsOf timed) (flightsOf counts visits) col′ v d → s ≡ record { gained = costAt P (recolour col v d) v; lost = costAt P col v }
-    turning-swing e = priced-swing (f .priced) col v d (rw same at e)
+    -- and what they gain and lose is that of the plan
+    pub turning-costs : {s : Swing} → VisitorsDiffer (constraintsOf timed) col′ v d (flightsOf counts visits) (record { before = s .lost; after = s .gained }) → Costs P col v d s
+    turning-costs e = priced-costs (f .priced) col v d (rw same at e)
 
   module _ {before : Sides} (b : before ≡ sidesOf P col (at col v) d) {look : Look} (k : Looked (P .edges) col v d look) where
     -- the components of the old sector
@@ -177,12 +178,12 @@ module _ {P : Plan} {start near areas col q : List ℕ} {v d : ℕ} (t : Turning
         })
 
     -- and then they are those of the new colouring
-    pub turning-turns : {c : Change} {dwell : Swing} → dwell ≡ record { gained = costAt P (recolour col v d) v; lost = costAt P col v } → c ≡ changeOf before (at (P .workloads) v) look dwell → Turns P col v d c
+    pub turning-turns : {c : Change} {dwell : Swing} → Costs P col v d dwell → c ≡ changeOf before (at (P .workloads) v) look dwell → Turns P col v d c
     turning-turns f e =
         rw (e, b)
         (record {
           changed = changed-recolour limits coloured (t .region) (t .sector) (t .other) refl (rw (old, new, leaves, comes)) (rw (k .met .here, k .met .there)) f;
-          single = record { border = rw (k .met .here) (faces-bound limits (lift col v) v (at col v)); dwell = rw f (cost-bound limits (recolour col v d) true v) };
+          single = record { border = rw (k .met .here) (faces-bound limits (lift col v) v (at col v)); dwell = omega (arith, f .gained, cost-bound limits (recolour col v d) true v) };
         })
       where
         old : ncc P col (at col v) + look .pieces - 1 ≡ ncc P (recolour col v d) (at col v)

@@ -116,7 +116,6 @@ pub fn region_violation(
         flights,
         firsts,
         colouring,
-        false,
         region,
     );
     weigh(constraints, had) + dwell

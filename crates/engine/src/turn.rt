@@ -7,9 +7,10 @@ ghost use Rattle.meaning.specs.Joined.{labels as labelsOf};
 ghost use Rattle.meaning.specs.Moves.{recolour};
 ghost use Rattle.change.specs.Changed.{sidesOf, Single};
 ghost use Rattle.visitors.specs.Visitors.{Pricing};
+ghost use Rattle.visitors.specs.AlongBoth.{VisitorsDiffer};
 ghost use Rattle.engine.specs.Memory.{Kept};
 ghost use Rattle.engine.specs.Turning.{Movable, changeOf, Turning, Turns, Followed};
-ghost use Rattle.engine.specs.Flown.{swingBy, Flown};
+ghost use Rattle.engine.specs.Flown.{Flown};
 use crate::memory::sides_in;
 use change::Change;
 use change::Pair;
@@ -19,9 +20,9 @@ use search::Look;
 use search::look_anew;
 use search::look_at;
 use search::meet;
-use visitors::price_visitors;
+use visitors::price_both;
 
-// What the flights that visit a region cost before and after it is given to the sector.
+// What the flights that visit a region gain and lose in price once it is given to the sector.
 fn swing_at(
     counts: &[u64],
     visits: &[u64],
@@ -29,45 +30,29 @@ fn swing_at(
     visited: &[u64],
     flights: &[u64],
     firsts: &[u64],
-    colouring: &mut [u64],
+    colouring: &[u64],
     region: u64,
     sector: u64,
 ) -> Swing
     requires { ⌜ Pricing (length (now colouring)) (now timed) (now counts) (now visits) (now visited) (now flights) (now firsts) ⌝ }
     requires { ⌜ In (length (now colouring)) region ⌝ }
-    ensures { λ r. ⌜ r ≡ swingBy (constraintsOf (now (timed .entry))) (flightsOf (now (counts .entry)) (now (visits .entry))) (now (colouring .entry)) region sector ⌝ }
-    ensures { λ r. ⌜ now (colouring .exit) ≡ now (colouring .entry) ⌝ }
+    ensures { λ r. ⌜ VisitorsDiffer (constraintsOf (now (timed .entry))) (now (colouring .entry)) region sector (flightsOf (now (counts .entry)) (now (visits .entry))) (record { before = r .lost; after = r .gained }) ⌝ }
 {
-    if timed.len() == 0 {
-        return Swing { gained: 0, lost: 0 };
+    let prices = price_both(
+        timed,
+        counts,
+        visits,
+        visited,
+        flights,
+        firsts,
+        colouring,
+        region,
+        sector,
+    );
+    Swing {
+        gained: prices.after,
+        lost: prices.before,
     }
-    let z = region as usize - 1;
-    let own = colouring[z];
-    let lost = price_visitors(
-        timed,
-        counts,
-        visits,
-        visited,
-        flights,
-        firsts,
-        colouring,
-        true,
-        region,
-    );
-    colouring[z] = sector;
-    let gained = price_visitors(
-        timed,
-        counts,
-        visits,
-        visited,
-        flights,
-        firsts,
-        colouring,
-        true,
-        region,
-    );
-    colouring[z] = own;
-    Swing { gained, lost }
 }
 
 // What giving a region to another sector changes, by what the two sectors have before it, the region's workload, a look at the region

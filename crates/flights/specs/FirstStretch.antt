@@ -11,6 +11,7 @@ use borrow.Author.Tests.{eq-eqb, ne-eqb}
 use lib.Dec.{eqb}
 use lib.ListN.{length, drop, length-drop, drop-of-length-le}
 use Rattle.lists.specs.Sums.{sum, Every}
+use Rattle.lists.specs.Tests.{by-eqb}
 use Rattle.lists.specs.ListLaws.{length-listOf, drop-listOf, listOf-every}
 use Rattle.meaning.specs.Plan.{Visit, Constraint, visitLength, visitAt, visitsOf, constraintsOf, mostVisits, mostDwell, VisitLimits, FlightLimits}
 use Rattle.meaning.specs.Stretches.{sectorOf, before, stretches, dwellOf, visits}
@@ -26,16 +27,24 @@ alone col all region v =
     record { sector = sectorOf col v; seconds = v .dwell; counted = all || eqb (v .region) region; after = 0 }
 
 -- a visit in one stretch with the first
-abbrev joined : Stretch → Stretch → Stretch
+abbrev pub joined : Stretch → Stretch → Stretch
 joined v t = record { sector = v .sector; seconds = v .seconds + t .seconds; counted = v .counted || t .counted; after = t .after }
 
 -- a visit as a stretch of its own, with the price of those after it
-abbrev broken : Stretch → ℕ → Stretch
+abbrev pub broken : Stretch → ℕ → Stretch
 broken v after = record { sector = v .sector; seconds = v .seconds; counted = v .counted; after = after }
 
 -- the price of a first stretch, where it counts, and of those after it
 abbrev pub priceFrom : List Constraint → Stretch → ℕ
 priceFrom ks t = t .after + cond (t .counted) (price ks (t .seconds)) 0
+
+-- a visit in front of the first stretch: one with it where both are in one sector, else a stretch of its own
+unfoldable pub withVisit : List Constraint → Stretch → Stretch → Stretch
+withVisit ks v t = cond (eqb (v .sector) (t .sector)) (joined v t) (broken v (priceFrom ks t))
+
+-- a stretch is no longer than a flight, and the price of those after it fits
+abbrev pub Fits : Stretch → Type 0
+Fits t = (t .seconds ≤ mostVisits * mostDwell) × (t .after < 2 ^ 63)
 
 -- whether either of two stretches counts
 counts-either : (all s t : Bool) → (all || s) || (all || t) ≡ all || (s || t)
@@ -144,6 +153,10 @@ module _ {R : ℕ} {flight : List ℕ} {k : ℕ} (g : Visiting R flight k) where
   unfolding visitsOf
   visiting-limits = listOf-every (VisitLimits R) (length flight / visitLength) (visitAt flight) (g .limits .visit) k (g .within)
 
+  -- it fits as a stretch of its own
+  pub visiting-fits : (visitAt flight k .dwell ≤ mostVisits * mostDwell) × (0 < 2 ^ 63)
+  visiting-fits = (omega (arith, visiting-limits .dwell .high), omega arith)
+
   -- from its index on: the visit, and those after it
   visiting-next : drop k (visitsOf flight) ≡ visitAt flight k ∷ drop (k + 1) (visitsOf flight)
   unfolding visitsOf
@@ -178,7 +191,7 @@ module _ {timed flight col : List ℕ} {all : Bool} {region k : ℕ} where
     taken-price = first-price _ _ _ _ (a .first)
 
     -- its seconds and that price fit
-    pub taken-fits : (t .seconds ≤ mostVisits * mostDwell) × (t .after < 2 ^ 63)
+    pub taken-fits : Fits t
     taken-fits =
         let l = visiting-from (a .visiting) in (
           first-seconds _ _ _ _ (a .first) l,
@@ -196,7 +209,7 @@ module _ {timed flight col : List ℕ} {all : Bool} {region k : ℕ} where
 
     module _ {v : Stretch} (p : v ≡ alone col all region (visitAt flight k)) where
       -- it is taken: into the first stretch, where it is in its sector
-      pub taken-joined : v .sector ≡ t .sector → Taken timed flight col all region k (joined v t)
+      taken-joined : v .sector ≡ t .sector → Taken timed flight col all region k (joined v t)
       taken-joined e =
           record {
             timing = a .timing;
@@ -205,10 +218,16 @@ module _ {timed flight col : List ℕ} {all : Bool} {region k : ℕ} where
           }
 
       -- as a stretch of its own, where it is not
-      pub taken-broken : v .sector ≢ t .sector → {after : ℕ} → after ≡ priceFrom (constraintsOf timed) t → Taken timed flight col all region k (broken v after)
+      taken-broken : v .sector ≢ t .sector → {after : ℕ} → after ≡ priceFrom (constraintsOf timed) t → Taken timed flight col all region k (broken v after)
       taken-broken ne q =
           record {
             timing = a .timing;
             visiting = taken-before;
             first = rw (visiting-next taken-before, p) (first-broken _ _ _ _ (a .first) (visitAt flight k) (rw p at ne) q);
           }
+
+      -- one way or the other
+      pub taken-turn : {r : Stretch} → r ≡ withVisit (constraintsOf timed) v t → Taken timed flight col all region k r
+      unfolding withVisit
+      taken-turn q =
+          rw q (by-eqb (v .sector) (t .sector) (Taken timed flight col all region k) (joined v t) (broken v (priceFrom (constraintsOf timed) t)) taken-joined (λ ne. taken-broken ne refl))

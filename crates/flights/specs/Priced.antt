@@ -4,14 +4,15 @@ use Prim.Native.Nat.{ℕ, suc, _+_, _-_, _*_, _/_, _≤_, _<_}
 use native.Mathlib.Nat.{le-trans}
 use native.Mathlib.Numerals.{add-one}
 use native.Mathlib.Omega.{arith}
-use mathlib.Core.Path.{_≡_, refl, ap}
-use mathlib.Core.List.{List, [], _∷_}
+use mathlib.Core.Path.{_≡_}
+use mathlib.Core.List.{List, _∷_}
 use mathlib.Core.Bool.{true}
 use lib.ListN.{length, getD, take, drop, length-drop, drop-of-length-le}
 use lib.Seq.{drop-cons, drop-drop}
 use Rattle.lists.specs.SumLaws.{each-at-most}
 use Rattle.terms.specs.Distance.{distance}
 use Rattle.meaning.specs.Plan.{Constraint, constraintLength, constraintAt, constraintsOf, visitLength, visitsOf, flightsOf, ConstraintLimits, FlightLimits, mostVisits, mostDwell, mostConstraints, mostWeight}
+use Rattle.meaning.specs.Flights.{length-flightsOf}
 use Rattle.meaning.specs.Bounds.{mostOff}
 use Rattle.meaning.specs.Prices.{price, flightPrice, flightsPrice, mostDwellTotal}
 use Rattle.meaning.specs.PriceLaws.{price-bound, flights-price-bound}
@@ -43,12 +44,6 @@ module _ {timed : List ℕ} (t : Timing timed) where
       (timing-bound h)
 
 -- ---- over the flights
-
--- there are as many as counts
-pub length-flights : (counts visits : List ℕ) → length (flightsOf counts visits) ≡ length counts
-unfolding flightsOf
-length-flights [] visits = refl
-length-flights (n ∷ counts) visits = ap suc (length-flights counts (drop (visitLength * n) visits))
 
 module _ {R n : ℕ} {counts visits : List ℕ} (f : Flying R (n ∷ counts) visits) where
   -- the first flight has its visits
@@ -127,5 +122,5 @@ module _ {timed counts visits col : List ℕ} where
               arith,
               priced-turn .rest,
               flights-price-bound (constraintsOf timed) (p .timing .few) (p .timing .constraint) (length col) col (flightsOf counts visits)
-                  (rw (length-flights counts visits) (p .all .few)) (p .all .flight),
+                  (rw (length-flightsOf counts visits) (p .all .few)) (p .all .flight),
             )

@@ -13,7 +13,7 @@ use Rattle.lists.specs.SumLaws.{sum-ext, sum-map, every-turn, every-from}
 use Rattle.lists.specs.ListLaws.{map-ext, getD-listOf}
 use Rattle.lists.specs.Places.{sum-at}
 use Rattle.meaning.specs.Plan.{Constraint, Plan, Coloured, edgesOf, constraintAt, constraintsOf}
-use Rattle.meaning.specs.Kinds.{whole, crosses, areaOf, border, counts, loads, deviation, connected, bounded, dwelling, byKind, violation, holds, total}
+use Rattle.meaning.specs.Kinds.{whole, crosses, areaOf, border, counts, loads, deviation, connected, bounded, byKind, violation, holds, total}
 use Rattle.meaning.specs.Components.{ncc-sum}
 use Rattle.meaning.specs.Moves.{verdict, verdictsOf, verdicts}
 use Rattle.meaning.specs.Prices.{dwellTotal}

@@ -13,7 +13,7 @@ use Rattle.lists.specs.Sums.{In, at, sum, Every}
 use Rattle.lists.specs.SumLaws.{sum-ext, sum-all, mul-sum, sum-add, sum-zero, sum-swap, few-bound, every-all, every-turn}
 use Rattle.lists.specs.Tests.{cond-le, cond-same}
 use Rattle.terms.specs.DistanceLaws.{distance-bound}
-use Rattle.meaning.specs.Plan.{Visit, Constraint, Plan, constraintsOf, mostFlights, mostVisits, mostDwell, mostConstraints, mostWeight, FlightLimits, ConstraintLimits, Limits}
+use Rattle.meaning.specs.Plan.{Visit, Constraint, Plan, mostFlights, mostVisits, mostDwell, mostConstraints, mostWeight, FlightLimits, ConstraintLimits, Limits}
 use Rattle.meaning.specs.Stretches.{stretches, dwellOf, visits}
 use Rattle.meaning.specs.StretchLaws.{stretches-elsewhere, stretches-recolour}
 use Rattle.meaning.specs.Kinds.{overStretches, offDwell, dwelling, violation, total, dwellingOf, partOf, regionViolation}
@@ -142,11 +142,6 @@ visitors-none col all v flights = sum-zero flights _ (every-all _ (λ flight. no
     nothing : (t : Bool) {n : ℕ} → n ≡ 0 → cond t n 0 ≡ 0
     nothing true e = e
     nothing false e = refl
-
--- so it is by an empty flat list
-pub visitors-empty : (timed : List ℕ) → length timed ≡ 0 → (col : List ℕ) (all : Bool) (v : ℕ) (flights : List (List Visit)) → visitorsPrice (constraintsOf timed) col all v flights ≡ 0
-unfolding constraintsOf
-visitors-empty timed e col all v flights = rw e (visitors-none col all v flights)
 
 -- ---- how a recolouring changes it
 

@@ -9,9 +9,9 @@ use lib.Dec.{eqb}
 use lib.ListN.{length, getD, drop, drop-of-length-le}
 use Rattle.lists.specs.Sums.{at}
 use Rattle.meaning.specs.Plan.{constraintsOf, flightsOf}
+use Rattle.meaning.specs.Flights.{length-flightsOf}
 use Rattle.meaning.specs.Prices.{flightPrice, visitorsPrice, mostDwellTotal}
 use Rattle.meaning.specs.PriceLaws.{visitors-none, visitors-price-bound}
-use Rattle.flights.specs.Priced.{length-flights}
 use Rattle.visitors.specs.Left.{flightFrom}
 use Rattle.visitors.specs.Once.{once, once-each}
 use Rattle.visitors.specs.Row.{Row, rowOf, row-end, row-number, row-first, row-drop}
@@ -67,7 +67,7 @@ module _ {timed counts visits starts numbers firsts col : List ℕ} {all : Bool}
             arith,
             along-turn .rest,
             visitors-price-bound (constraintsOf timed) (g .timing .few) (g .timing .constraint) (length col) col (flightsOf counts visits)
-                (rw (length-flights counts visits) (g .flying .few)) (g .flying .flight) all v,
+                (rw (length-flightsOf counts visits) (g .flying .few)) (g .flying .flight) all v,
           )
 
 -- an empty list has no constraints: there is nothing to pay

@@ -7,3 +7,4 @@ pub mod Visitors
 pub mod Once
 pub mod Row
 pub mod Along
+pub mod AlongBoth

@@ -1,6 +1,6 @@
 // Which flights visit each region, in compressed rows, and the price of the flights that visit a region.
 ghost use mathlib.Core.Path.{_≡_};
-ghost use mathlib.Core.Bool.{cond};
+ghost use mathlib.Core.Bool.{false, cond};
 ghost use Prim.Native.Nat.{_+_, _*_, _/_, _≤_};
 ghost use lib.Dec.{eqb};
 ghost use lib.ListN.{length};
@@ -12,7 +12,10 @@ ghost use Rattle.visitors.specs.HopLaws.{Numbered};
 ghost use Rattle.visitors.specs.Laid.{layFlight, Room, Laid};
 ghost use Rattle.visitors.specs.Visitors.{Visitors, Pricing};
 ghost use Rattle.visitors.specs.Along.{numberPrice};
+ghost use Rattle.visitors.specs.AlongBoth.{CellsDiffer, VisitorsDiffer};
+use flights::pricing::Prices;
 use flights::pricing::flight_price;
+use flights::pricing::flight_prices;
 use terms::limits::EDGE_LENGTH;
 use terms::limits::MOST_FLIGHTS;
 use terms::limits::MOST_VISITS;
@@ -82,7 +85,6 @@ fn price_cell(
     counts: &[u64],
     visits: &[u64],
     colouring: &[u64],
-    all: bool,
     region: u64,
     number: u64,
     first: u64,
@@ -90,7 +92,7 @@ fn price_cell(
 ) -> u64
     requires { ⌜ Timing (now timed) ⌝ }
     requires { ⌜ Numbered (length (now colouring)) (now counts) (now visits) number first ⌝ }
-    ensures { λ r. ⌜ r ≡ cond (eqb number last) 0 (numberPrice (now (timed .entry)) (now (counts .entry)) (now (visits .entry)) (now (colouring .entry)) all region number first) ⌝ }
+    ensures { λ r. ⌜ r ≡ cond (eqb number last) 0 (numberPrice (now (timed .entry)) (now (counts .entry)) (now (visits .entry)) (now (colouring .entry)) false region number first) ⌝ }
 {
     if number == last {
         return 0;
@@ -99,10 +101,10 @@ fn price_cell(
     let next = first as usize + counts[k] as usize;
     let start = VISIT_LENGTH * first as usize;
     let end = VISIT_LENGTH * next;
-    flight_price(timed, &visits[start..end], colouring, all, region)
+    flight_price(timed, &visits[start..end], colouring, false, region)
 }
 
-// The price of the flights that visit a region: of all their stretches, or only of those that visit it.
+// The price of the stretches that visit a region.
 pub fn price_visitors(
     timed: &[u64],
     counts: &[u64],
@@ -111,12 +113,11 @@ pub fn price_visitors(
     numbers: &[u64],
     firsts: &[u64],
     colouring: &[u64],
-    all: bool,
     region: u64,
 ) -> u64
     requires { ⌜ Pricing (length (now colouring)) (now timed) (now counts) (now visits) (now starts) (now numbers) (now firsts) ⌝ }
     requires { ⌜ In (length (now colouring)) region ⌝ }
-    ensures { λ r. ⌜ r ≡ visitorsPrice (constraintsOf (now (timed .entry))) (now (colouring .entry)) all region (flightsOf (now (counts .entry)) (now (visits .entry))) ⌝ }
+    ensures { λ r. ⌜ r ≡ visitorsPrice (constraintsOf (now (timed .entry))) (now (colouring .entry)) false region (flightsOf (now (counts .entry)) (now (visits .entry))) ⌝ }
 {
     if timed.len() == 0 {
         return 0;
@@ -133,7 +134,6 @@ pub fn price_visitors(
             counts,
             visits,
             colouring,
-            all,
             region,
             number,
             firsts[j],
@@ -143,4 +143,83 @@ pub fn price_visitors(
         j += 1;
     }
     sum
+}
+
+// Two prices that differ as those of the flight of a cell do, and 0 where the cell before it has the same flight.
+fn price_cell_both(
+    timed: &[u64],
+    counts: &[u64],
+    visits: &[u64],
+    colouring: &[u64],
+    region: u64,
+    sector: u64,
+    number: u64,
+    first: u64,
+    last: u64,
+) -> Prices
+    requires { ⌜ Timing (now timed) ⌝ }
+    requires { ⌜ Numbered (length (now colouring)) (now counts) (now visits) number first ⌝ }
+    requires { ⌜ In (length (now colouring)) region ⌝ }
+    ensures { λ r. ⌜ CellsDiffer (now (timed .entry)) (now (counts .entry)) (now (visits .entry)) (now (colouring .entry)) region sector number first last r ⌝ }
+{
+    if number == last {
+        return Prices {
+            before: 0,
+            after: 0,
+        };
+    }
+    let k = number as usize - colouring.len() - 1;
+    let next = first as usize + counts[k] as usize;
+    let start = VISIT_LENGTH * first as usize;
+    let end = VISIT_LENGTH * next;
+    flight_prices(timed, &visits[start..end], colouring, region, sector)
+}
+
+// Two prices that differ as those of the flights that visit a region do, as it is and with the region given to the sector.
+pub fn price_both(
+    timed: &[u64],
+    counts: &[u64],
+    visits: &[u64],
+    starts: &[u64],
+    numbers: &[u64],
+    firsts: &[u64],
+    colouring: &[u64],
+    region: u64,
+    sector: u64,
+) -> Prices
+    requires { ⌜ Pricing (length (now colouring)) (now timed) (now counts) (now visits) (now starts) (now numbers) (now firsts) ⌝ }
+    requires { ⌜ In (length (now colouring)) region ⌝ }
+    ensures { λ r. ⌜ VisitorsDiffer (constraintsOf (now (timed .entry))) (now (colouring .entry)) region sector (flightsOf (now (counts .entry)) (now (visits .entry))) r ⌝ }
+{
+    if timed.len() == 0 {
+        return Prices {
+            before: 0,
+            after: 0,
+        };
+    }
+    let row = region as usize;
+    let end = starts[row] as usize;
+    let mut j = starts[row - 1] as usize;
+    let mut last = 0;
+    let mut before = 0;
+    let mut after = 0;
+    while j < end {
+        let flight = numbers[j];
+        let cell = price_cell_both(
+            timed,
+            counts,
+            visits,
+            colouring,
+            region,
+            sector,
+            flight,
+            firsts[j],
+            last,
+        );
+        before += cell.before;
+        after += cell.after;
+        last = flight;
+        j += 1;
+    }
+    Prices { before, after }
 }

@@ -1,17 +1,18 @@
 -- Each turn adds what one cell more adds; with what the cells after it add, the sum is the price.
 use Prim.Native.Nat.{_-_}
 use native.Mathlib.Omega.{arith}
+use mathlib.Core.Bool.{false}
 use Rattle.visitors.specs.Row.{pricing-row, row-fits, row-numbered}
 use Rattle.visitors.specs.Along.{Along, along-start, along-end, along-turn, along-room, nothing-timed}
 use Rattle.visitors.proofs.price_visitors.Statement.{statement}
 use Rattle.visitors.proofs.price_visitors.Tie as tie
 
 abbrev Inv-loop : tie.InvT-loop
-Inv-loop timed counts visits starts numbers firsts colouring all region row end j₀ last₀ sum₀ j last sum =
-    Along timed counts visits starts numbers firsts colouring all region j last sum
+Inv-loop timed counts visits starts numbers firsts colouring region row end j₀ last₀ sum₀ j last sum =
+    Along timed counts visits starts numbers firsts colouring false region j last sum
 
 abbrev μ-loop : tie.MeasureT-loop
-μ-loop timed counts visits starts numbers firsts colouring all region row end j₀ last₀ sum₀ j last sum = end - j
+μ-loop timed counts visits starts numbers firsts colouring region row end j₀ last₀ sum₀ j last sum = end - j
 
 returns : tie.Need-returns Inv-loop μ-loop
 returns c = nothing-timed _ _ _ _ _ _ (c .if1 .taken)

@@ -14,6 +14,24 @@ pub struct Flights<'a> {
     cells: [usize; 2048],
 }
 
+/// A stretch so far, and the price of those before it.
+#[derive(Default, Clone, Copy)]
+struct Stretch {
+    sector: u64,
+    seconds: u64,
+    price: u64,
+}
+
+impl Stretch {
+    fn with(self, timed: &[u64], sector: u64, seconds: u64) -> Self {
+        if sector == self.sector {
+            return Stretch { seconds: self.seconds + seconds, ..self };
+        }
+        let price = if self.seconds > 0 { stretch_price(timed, self.seconds) } else { 0 };
+        Stretch { sector, seconds, price: self.price + price }
+    }
+}
+
 /// The price of a stretch by some constraints.
 fn stretch_price(timed: &[u64], seconds: u64) -> u64 {
     timed.chunks_exact(4).map(|q| q[3] * distance(q[1], seconds, q[2])).sum()
@@ -87,9 +105,31 @@ impl<'a> Flights<'a> {
         (0..self.flights).map(|k| self.flight_price(self.timed(), colouring, k, true, 0)).sum()
     }
 
-    /// The price of the flights that visit v.
-    pub fn visitors_price(&self, colouring: &[u64], v: usize) -> u64 {
-        self.visitors(v).map(|k| self.flight_price(self.timed(), colouring, k, true, 0)).sum()
+    /// The price of a flight as it is and with v given to the sector, in one walk: a stretch that both have is priced once.
+    fn flight_prices(&self, colouring: &[u64], k: usize, v: u64, sector: u64) -> (u64, u64) {
+        let timed = self.timed();
+        let (mut before, mut after) = (Stretch::default(), Stretch::default());
+        for visit in self.flight(k).chunks_exact(2) {
+            let own = colouring[visit[0] as usize - 1];
+            let new = if visit[0] == v { sector } else { own };
+            let (joins, joins_after) = (own == before.sector, new == after.sector);
+            if (joins == joins_after) & (before.seconds == after.seconds) {
+                let seconds = visit[1] + if joins { before.seconds } else { 0 };
+                before.sector = own;
+                after.sector = new;
+                before.seconds = seconds;
+                after.seconds = seconds;
+            } else {
+                before = before.with(timed, own, visit[1]);
+                after = after.with(timed, new, visit[1]);
+            }
+        }
+        (before.price + stretch_price(timed, before.seconds), after.price + stretch_price(timed, after.seconds))
+    }
+
+    /// The prices of the flights that visit v, as they are and with v given to the sector.
+    pub fn visitors_prices(&self, colouring: &[u64], v: usize, sector: u64) -> (u64, u64) {
+        self.visitors(v).map(|k| self.flight_prices(colouring, k, v as u64, sector)).fold((0, 0), |a, b| (a.0 + b.0, a.1 + b.1))
     }
 
     /// The price of the stretches that visit v.

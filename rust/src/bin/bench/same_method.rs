@@ -496,10 +496,7 @@ impl<'a> Engine<'a> {
 
     /// What the flights come to once v is in the sector, where they come to `dwell` now.
     fn dwell_after(&mut self, v: usize, sector: u64, dwell: u64) -> u64 {
-        let before = self.flights.visitors_price(self.colouring, v);
-        let own = std::mem::replace(&mut self.colouring[v - 1], sector);
-        let after = self.flights.visitors_price(self.colouring, v);
-        self.colouring[v - 1] = own;
+        let (before, after) = self.flights.visitors_prices(self.colouring, v, sector);
         dwell + after - before
     }
 

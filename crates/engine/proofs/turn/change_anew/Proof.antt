@@ -1,7 +1,6 @@
--- What the two sectors have, what the look finds and what the flights cost make the change; both leave the colouring as it was.
+-- What the two sectors have, what the look finds and what the flights gain and lose make the change; the look leaves the colouring as it was.
 use borrow.Author.Needs.{needs}
-use mathlib.Core.Path.{_∙_}
-use Rattle.engine.specs.Turning.{turning-looking, turning-pricing, turning-swing, turning-movable, turning-turns}
+use Rattle.engine.specs.Turning.{turning-looking, turning-pricing, turning-costs, turning-movable, turning-turns}
 use Rattle.engine.proofs.turn.change_anew.Statement.{statement}
 use Rattle.engine.proofs.turn.change_anew.Tie as tie
 
@@ -21,7 +20,7 @@ swing-at-requires : tie.Need-swing-at-requires
 swing-at-requires c κs = let s = c .before .before .before .before .before .before .before .before .before .before .before .before .before .before .before .before .before .before .before .before .before .before .before .pre in turning-pricing (s .0) (s .1 .1) (c .before .before .before .before .before .look-anew .ensures .1)
 
 change-of-requires : tie.Need-change-of-requires
-change-of-requires c κs = let s = c .before .before .before .before .before .before .before .before .before .before .before .before .before .before .before .before .before .before .before .before .before .before .before .before .before .before .pre in turning-movable (s .0) (s .1 .0) (c .before .before .before .before .before .before .before .before .look-anew .ensures .0)
+change-of-requires c κs = let s = c .before .before .before .before .before .before .before .before .before .before .before .before .before .before .before .before .before .before .before .before .before .before .before .before .pre in turning-movable (s .0) (s .1 .0) (c .before .before .before .before .before .before .look-anew .ensures .0)
 
 same-length : tie.Need-same-length
 same-length c = search needs
@@ -31,10 +30,10 @@ same-length-2 c = search needs
 
 returns : tie.Need-returns
 returns c =
-    let s = c .before .before .before .before .before .before .before .before .before .before .before .before .before .before .before .before .before .before .before .before .before .before .before .before .before .before .before .pre in
-    let look = c .before .before .before .before .before .before .before .before .before .look-anew .ensures in
-    let swing = c .before .before .before .swing-at .ensures in
-    (turning-turns (s .0) (s .1 .0) (look .0) (turning-swing (s .0) (s .1 .1) (look .1) (swing .0)) (c .change-of .ensures), swing .1 ∙ look .1)
+    let s = c .before .before .before .before .before .before .before .before .before .before .before .before .before .before .before .before .before .before .before .before .before .before .before .before .before .pre in
+    let look = c .before .before .before .before .before .before .before .look-anew .ensures in
+    let costs = turning-costs (s .0) (s .1 .1) (look .1) (c .before .swing-at .ensures) in
+    (turning-turns (s .0) (s .1 .0) (look .0) costs (c .change-of .ensures), look .1)
 
 pub change-anew-spec : {M : Type 1} → statement M
 change-anew-spec =

@@ -1,10 +1,10 @@
--- What stands in the work memory, what the look finds and what the flights cost make the change; both leave the colouring as it was.
+-- What stands in the work memory, what the look finds and what the flights gain and lose make the change; the look leaves the colouring as it was.
 use borrow.Author.Needs.{needs}
 use native.Mathlib.Omega.{arith}
-use mathlib.Core.Path.{sym, _∙_}
+use mathlib.Core.Path.{sym}
 use lib.Seq.{length-take-le}
 use Rattle.engine.specs.Memory.{kept-labels}
-use Rattle.engine.specs.Turning.{turning-placed, turning-sides, turning-looking, turning-pricing, turning-swing, turning-movable, turning-turns}
+use Rattle.engine.specs.Turning.{turning-placed, turning-sides, turning-looking, turning-pricing, turning-costs, turning-movable, turning-turns}
 use Rattle.engine.proofs.turn.change_at.Statement.{statement}
 use Rattle.engine.proofs.turn.change_at.Tie as tie
 
@@ -40,8 +40,8 @@ swing-at-requires c κs = let s = c .before .before .before .before .before .bef
 
 change-of-requires : tie.Need-change-of-requires
 change-of-requires c κs =
-    let s = c .before .before .before .before .before .before .before .before .before .before .before .before .before .before .before .before .before .before .before .before .before .before .before .before .before .before .before .before .before .before .pre in
-    turning-movable (s .0) (turning-sides (s .0) (s .1 .0) (c .before .before .before .before .before .before .before .before .before .before .before .before .before .sides-in .ensures)) (c .before .before .before .before .before .before .before .before .look-at .ensures .0)
+    let s = c .before .before .before .before .before .before .before .before .before .before .before .before .before .before .before .before .before .before .before .before .before .before .before .before .before .before .before .before .pre in
+    turning-movable (s .0) (turning-sides (s .0) (s .1 .0) (c .before .before .before .before .before .before .before .before .before .before .before .sides-in .ensures)) (c .before .before .before .before .before .before .look-at .ensures .0)
 
 same-length : tie.Need-same-length
 same-length c = search needs
@@ -51,12 +51,10 @@ same-length-2 c = search needs
 
 returns : tie.Need-returns
 returns c =
-    let s = c .before .before .before .before .before .before .before .before .before .before .before .before .before .before .before .before .before .before .before .before .before .before .before .before .before .before .before .before .before .before .before .pre in
-    let look = c .before .before .before .before .before .before .before .before .before .look-at .ensures in
-    let swing = c .before .before .before .swing-at .ensures in (
-      turning-turns (s .0) (turning-sides (s .0) (s .1 .0) (c .before .before .before .before .before .before .before .before .before .before .before .before .before .before .sides-in .ensures)) (look .0) (turning-swing (s .0) (s .1 .1) (look .1) (swing .0)) (c .change-of .ensures),
-      swing .1 ∙ look .1,
-    )
+    let s = c .before .before .before .before .before .before .before .before .before .before .before .before .before .before .before .before .before .before .before .before .before .before .before .before .before .before .before .before .before .pre in
+    let look = c .before .before .before .before .before .before .before .look-at .ensures in
+    let costs = turning-costs (s .0) (s .1 .1) (look .1) (c .before .swing-at .ensures) in
+    (turning-turns (s .0) (turning-sides (s .0) (s .1 .0) (c .before .before .before .before .before .before .before .before .before .before .before .before .sides-in .ensures)) (look .0) costs (c .change-of .ensures), look .1)
 
 pub change-at-spec : {M : Type 1} → statement M
 change-at-spec =

@@ -1,8 +1,8 @@
--- What the region meets and the pieces that are found as the labels follow make a look, and with what the two sectors have and the flights cost they make the change.
+-- What the region meets and the pieces that are found as the labels follow make a look, and with what the two sectors have and the flights gain and lose they make the change.
 use borrow.Author.Needs.{needs}
 use mathlib.Core.Path.{_∙_}
 use Rattle.search.specs.Looking.{looked-both}
-use Rattle.engine.specs.Turning.{turning-looking, turning-labels, turning-pricing, turning-swing, turning-movable, turning-turns, turning-followed}
+use Rattle.engine.specs.Turning.{turning-looking, turning-labels, turning-pricing, turning-costs, turning-movable, turning-turns, turning-followed}
 use Rattle.engine.proofs.turn.turn.Statement.{statement}
 use Rattle.engine.proofs.turn.turn.Tie as tie
 
@@ -23,33 +23,33 @@ swing-at-requires c κs = let s = c .before .before .before .before .before .bef
 
 recolour-requires : tie.Need-recolour-requires
 recolour-requires c κs =
-    let s = c .before .before .before .before .before .before .before .before .before .before .before .before .before .before .before .before .before .before .before .before .before .before .before .before .before .before .before .before .before .before .before .pre in
-    let m = c .before .before .before .before .before .before .before .before .before .before .before .meet in
-    turning-labels (s .0) (c .before .before .before .before .before .swing-at .ensures .1 ∙ m .ensures .1) (m .kept .1 .1 .1 .1 .1 .1 .0) (s .1 .1 .0)
+    let s = c .before .before .before .before .before .before .before .before .before .before .before .before .before .before .before .before .before .before .before .before .before .before .before .before .before .before .before .before .before .pre in
+    let m = c .before .before .before .before .before .before .before .before .before .meet in
+    turning-labels (s .0) (m .ensures .1) (m .kept .1 .1 .1 .1 .1 .1 .0) (s .1 .1 .0)
 
 change-of-requires : tie.Need-change-of-requires
 change-of-requires c κs =
-    let s = c .before .before .before .before .before .before .before .before .before .before .before .before .before .before .before .before .before .before .before .before .before .before .before .before .before .before .before .before .before .before .before .before .before .before .before .before .before .before .pre in
-    let m = c .before .before .before .before .before .before .before .before .before .before .before .before .before .before .before .before .before .before .meet .ensures in
-    turning-movable (s .0) (s .1 .0) (looked-both (c .before .before .before .before .before .before .before .before .before .before .before .before .swing-at .ensures .1 ∙ m .1) (m .0) (c .before .before .before .before .before .before .recolour .ensures .1 .1 .1))
+    let s = c .before .before .before .before .before .before .before .before .before .before .before .before .before .before .before .before .before .before .before .before .before .before .before .before .before .before .before .before .before .before .before .before .before .before .before .before .pre in
+    let m = c .before .before .before .before .before .before .before .before .before .before .before .before .before .before .before .before .meet .ensures in
+    turning-movable (s .0) (s .1 .0) (looked-both (m .1) (m .0) (c .before .before .before .before .before .before .recolour .ensures .1 .1 .1))
 
 same-length : tie.Need-same-length
-same-length c = c .before .before .before .before .before .before .before .recolour .kept .1 .1 .1 .0 ∙ c .before .before .before .before .before .before .before .before .before .before .before .before .before .swing-at .kept .1 .1 .1 .1 .1 .1 .0 ∙ c .before .before .before .before .before .before .before .before .before .before .before .before .before .before .before .before .before .before .before .meet .kept .1 .1 .1 .1 .1 .0
+same-length c = c .before .before .before .before .before .before .before .recolour .kept .1 .1 .1 .0 ∙ c .before .before .before .before .before .before .before .before .before .before .before .before .before .before .before .before .before .meet .kept .1 .1 .1 .1 .1 .0
 
 same-length-2 : tie.Need-same-length-2
 same-length-2 c = search needs
 
 same-length-3 : tie.Need-same-length-3
-same-length-3 c = c .before .before .before .before .before .before .before .recolour .kept .1 .1 .1 .1 .1 .0 ∙ c .before .before .before .before .before .before .before .before .before .before .before .before .before .before .before .before .before .before .before .meet .kept .1 .1 .1 .1 .1 .1 .0
+same-length-3 c = c .before .before .before .before .before .before .before .recolour .kept .1 .1 .1 .1 .1 .0 ∙ c .before .before .before .before .before .before .before .before .before .before .before .before .before .before .before .before .before .meet .kept .1 .1 .1 .1 .1 .1 .0
 
 returns : tie.Need-returns
 returns c =
-    let s = c .before .before .before .before .before .before .before .before .before .before .before .before .before .before .before .before .before .before .before .before .before .before .before .before .before .before .before .before .before .before .before .before .before .before .before .before .before .before .before .pre in
-    let m = c .before .before .before .before .before .before .before .before .before .before .before .before .before .before .before .before .before .before .before .meet .ensures in
+    let s = c .before .before .before .before .before .before .before .before .before .before .before .before .before .before .before .before .before .before .before .before .before .before .before .before .before .before .before .before .before .before .before .before .before .before .before .before .before .pre in
+    let m = c .before .before .before .before .before .before .before .before .before .before .before .before .before .before .before .before .before .meet .ensures in
     let n = c .before .before .before .before .before .before .before .recolour .ensures in
-    let swing = c .before .before .before .before .before .before .before .before .before .before .before .before .before .swing-at .ensures in
-    let turns = turning-turns (s .0) (s .1 .0) (looked-both (swing .1 ∙ m .1) (m .0) (n .1 .1 .1)) (turning-swing (s .0) (s .1 .1 .1) (m .1) (swing .0)) (c .change-of .ensures) in
-    (turning-followed (s .0) (swing .1 ∙ m .1) (s .1 .1 .0) (n .0) (n .1 .0) (n .1 .1 .0) turns, turns .single)
+    let costs = turning-costs (s .0) (s .1 .1 .1) (m .1) (c .before .before .before .before .before .before .before .before .before .before .before .swing-at .ensures) in
+    let turns = turning-turns (s .0) (s .1 .0) (looked-both (m .1) (m .0) (n .1 .1 .1)) costs (c .change-of .ensures) in
+    (turning-followed (s .0) (m .1) (s .1 .1 .0) (n .0) (n .1 .0) (n .1 .1 .0) turns, turns .single)
 
 pub turn-spec : {M : Type 1} → statement M
 turn-spec =
