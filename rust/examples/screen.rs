@@ -36,11 +36,12 @@ fn show(bytes: &[u8]) -> Result<(), Refusal> {
     try_moves(&mut plan)
 }
 
-/// What a sheet stores, in lists as long as it needs them.
+/// What a sheet stores, in lists as long as it needs them, and zeros for the outside areas, which it doesn't store.
 struct Plan {
     regions: u64,
     sectors: u64,
     workloads: Vec<u64>,
+    outside: Vec<u64>,
     edges: Vec<u64>,
     constraints: Vec<u64>,
     colouring: Vec<u64>,
@@ -55,7 +56,8 @@ impl Plan {
         edges.truncate(3 * head.edges as usize);
         constraints.truncate(4 * head.constraints as usize);
         colouring.truncate(head.regions as usize);
-        Ok(Plan { regions: head.regions, sectors: head.sectors, workloads, edges, constraints, colouring })
+        let outside = vec![0; workloads.len()];
+        Ok(Plan { regions: head.regions, sectors: head.sectors, workloads, outside, edges, constraints, colouring })
     }
 
     fn sector(&self, region: u64) -> u64 {
@@ -90,7 +92,7 @@ fn sentence(place: u64, kind: u64, relation: u64, limit: u64) -> String {
     let bound = bound(relation, limit);
     match kind {
         1 => format!("Constraint {place}: no sector has more than one component, and the components are {bound} in all."),
-        2 => format!("Constraint {place}: the area of the edges between different sectors is {bound} in all."),
+        2 => format!("Constraint {place}: the area of the faces between different sectors and to the outside is {bound} in all."),
         3 => format!(
             "Constraint {place}: how far the workload of each sector is from the average, times the number of sectors, \
              is {bound} in all."
@@ -121,6 +123,7 @@ fn send_flight(plan: &Plan) -> Result<(), Refusal> {
         plan.regions,
         plan.sectors,
         &plan.workloads,
+        &plan.outside,
         &plan.edges,
         &[2],
         &[a, 300, b, 45],
@@ -150,6 +153,7 @@ fn try_moves(plan: &mut Plan) -> Result<(), Refusal> {
         plan.regions,
         plan.sectors,
         &plan.workloads,
+        &plan.outside,
         &plan.edges,
         &[],
         &[],

@@ -18,6 +18,9 @@ fn totals(answer: raw::CallAnswer) -> Result<Totals, Refusal> {
 /// An edge is three numbers, a constraint four, a move three, a row four, a verdict two; the work memory holds
 /// `regions + 2 * sectors + 1` numbers. What lies beyond them stays as it was.
 ///
+/// `outside` has for each region the area of its face to the outside, 0 where it has none. The border of the plan has all of them,
+/// and a region's border its own.
+///
 /// Flights are two lists: `counts` has the number of visits of each flight, and `visits` the visits of one flight after the other,
 /// each a region and the seconds spent there. Both are empty where there are no flights.
 ///
@@ -28,6 +31,7 @@ fn totals(answer: raw::CallAnswer) -> Result<Totals, Refusal> {
 ///     5,
 ///     2,
 ///     &[10, 20, 30, 25, 15],
+///     &[0; 5], // no face to the outside
 ///     &[1, 2, 4, 2, 3, 6, 3, 4, 2, 4, 5, 3],
 ///     &[], // no flights
 ///     &[],
@@ -48,6 +52,7 @@ pub fn call(
     regions: u64,
     sectors: u64,
     workloads: &[u64],
+    outside: &[u64],
     edges: &[u64],
     counts: &[u64],
     visits: &[u64],
@@ -65,6 +70,8 @@ pub fn call(
             sectors,
             workloads.as_ptr(),
             workloads.len(),
+            outside.as_ptr(),
+            outside.len(),
             edges.as_ptr(),
             edges.len(),
             counts.as_ptr(),
@@ -93,27 +100,29 @@ pub fn call(
 /// use qirfadhun::Constraint;
 ///
 /// let connected = Constraint { kind: 1, relation: 3, limit: 2, weight: 100 };
+/// let border = Constraint { kind: 2, relation: 1, limit: 8, weight: 2 };
 /// let bounded = Constraint { kind: 4, relation: 1, limit: 55, weight: 3 };
 /// let dwell = Constraint { kind: 5, relation: 6, limit: 120, weight: 1 };
-/// let (mut colouring, mut verdicts) = ([1, 2, 2], [0; 6]);
+/// let (mut colouring, mut verdicts) = ([1, 2, 2], [0; 8]);
 /// let totals = qirfadhun::call_records(
 ///     3,
 ///     2,
 ///     &[60, 20, 20],
+///     &[5, 0, 1], // faces of regions 1 and 3 to the outside
 ///     &[1, 2, 4, 2, 3, 6],
 ///     &[3, 1], // two flights, of three visits and of one
 ///     &[1, 300, 2, 80, 3, 60, 3, 90],
-///     &[connected, bounded, dwell],
+///     &[connected, border, bounded, dwell],
 ///     &mut colouring,
 ///     &[],
 ///     &mut [],
 ///     &mut verdicts,
 ///     &mut [0; 8],
 /// )?;
-/// assert_eq!(totals.last, 45);
-/// // The first holds. The workload of sector 1 is 5 above 55. One flight stays 300 seconds in sector 1 and 140 in sector 2, the
-/// // other 90 in sector 2, which is 30 below 120.
-/// assert_eq!(verdicts, [1, 0, 0, 5, 0, 30]);
+/// assert_eq!(totals.last, 49);
+/// // The first holds. The border is 4 between the sectors and 6 to the outside, 2 above 8. The workload of sector 1 is 5 above 55.
+/// // One flight stays 300 seconds in sector 1 and 140 in sector 2, the other 90 in sector 2, which is 30 below 120.
+/// assert_eq!(verdicts, [1, 0, 0, 2, 0, 5, 0, 30]);
 /// # Ok::<(), qirfadhun::Refusal>(())
 /// ```
 #[allow(clippy::too_many_arguments)]
@@ -121,6 +130,7 @@ pub fn call_records(
     regions: u64,
     sectors: u64,
     workloads: &[u64],
+    outside: &[u64],
     edges: &[u64],
     counts: &[u64],
     visits: &[u64],
@@ -138,6 +148,8 @@ pub fn call_records(
             sectors,
             workloads.as_ptr(),
             workloads.len(),
+            outside.as_ptr(),
+            outside.len(),
             edges.as_ptr(),
             edges.len(),
             counts.as_ptr(),

@@ -12,7 +12,8 @@ pub struct Head {
 }
 
 /// Reads a sheet: from their starts the lent lists hold a workload a region, three numbers an edge, four a constraint, and the
-/// colouring. What lies beyond stays as it was.
+/// colouring. What lies beyond stays as it was. A sheet has no outside areas and no flights: [`call`](fn@crate::call) takes a zero
+/// a region and two empty lists for them.
 ///
 /// ```
 /// use qirfadhun::limits::{MOST_CONSTRAINTS, MOST_EDGES, MOST_REGIONS};
@@ -59,7 +60,8 @@ fn bytes_written(answer: raw::WriteAnswer) -> Result<usize, Refusal> {
 }
 
 /// Writes a plan and its colouring as a sheet at the start of the lent bytes, and answers how many bytes it has. What lies beyond
-/// stays as it was. The sheet has no flights, and holds constraints of the kinds 1 to 4 only; kind 5 is refused by code 7.
+/// stays as it was. The sheet has no outside areas and no flights, and holds constraints of the kinds 1 to 4 only; kind 5 is refused
+/// by code 7.
 ///
 /// ```
 /// let mut lent = [0; qirfadhun::limits::MOST_BYTES];
@@ -137,7 +139,8 @@ pub fn write_records(
     })
 }
 
-/// The bytes of a sheet that is not refused, to be asked for its verdicts. Each question reads the bytes anew.
+/// The bytes of a sheet that is not refused, to be asked for its verdicts. Each question reads the bytes anew. The plan in it is
+/// judged without outside areas and without flights.
 ///
 /// Constraints are known by their place in the list, from 1. For a place outside the list [`holds`](Sheet::holds) answers false and
 /// [`violation`](Sheet::violation) 0; inside it, a constraint holds exactly when its violation is 0.

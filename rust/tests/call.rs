@@ -10,8 +10,8 @@ mod reference;
 use calls::{by_reference, compare, Answer, Call, Memory};
 use cases::{all_cases, random_cases, shrink, Case, Code};
 use plans::{
-    break_list, damaged, flights_along, judged_damages, largest_plan, moves, plan_of, sheet_a_with_flights, Damage, Numbers,
-    Random,
+    break_list, damaged, flights_along, judged_damages, largest_plan, moves, plan_of, sheet_a_with_flights, sheet_a_with_outside,
+    Damage, Numbers, Random,
 };
 use reference::*;
 
@@ -39,13 +39,14 @@ fn random_damaged_calls() {
 
 fn break_one(random: &mut Random, call: &mut Call) {
     let Call { plan, moves, rows, verdicts, work } = call;
-    match random.between(0, 9) {
+    match random.between(0, 10) {
         0 => break_list(random, moves, &[plan.regions, plan.sectors]),
         1 | 2 => {
             let room = &mut [rows, verdicts, work][random.place(3)];
             **room = random.pick(&[0, room.saturating_sub(1), **room + 1, **room + 7]);
         }
         3 | 4 => plan.break_flights(random),
+        5 => plan.break_outside(random),
         _ => plan.break_one(random),
     }
 }
@@ -55,10 +56,11 @@ fn break_one(random: &mut Random, call: &mut Call) {
 fn empty_slices() {
     let (mut colouring, mut verdicts, mut work) = ([1], [7; 2], [7; 4]);
     let constraint = [4, 6, 1, 1];
-    let totals = library::call(1, 1, &[9], &[], &[], &[], &constraint, &mut colouring, &[], &mut [], &mut verdicts, &mut work);
+    let totals =
+        library::call(1, 1, &[9], &[8], &[], &[], &[], &constraint, &mut colouring, &[], &mut [], &mut verdicts, &mut work);
     assert_eq!(totals.map(|totals| (totals.first, totals.last)), Ok((0, 0)));
-    assert_eq!((verdicts, work), ([1, 0], [1, 1, 9, 0]));
-    let refused = library::call(0, 0, &[], &[], &[], &[], &[], &mut [], &[], &mut [], &mut [], &mut []);
+    assert_eq!((verdicts, work), ([1, 0], [1, 1, 9, 8]));
+    let refused = library::call(0, 0, &[], &[], &[], &[], &[], &[], &mut [], &[], &mut [], &mut [], &mut []);
     assert_eq!(refused.map_err(|refusal| (refusal.code, refusal.place)), Err((1, 0)));
 }
 
@@ -111,23 +113,25 @@ fn every_refusal_in_order() {
 
 #[test]
 fn wild_numbers_everywhere() {
-    let good = Call::new(sheet_a_with_flights(), (1..=5).flat_map(|kind| [kind, 2, if kind < 5 { 1 } else { 0 }]).collect());
+    let plan = Numbers { outside: sheet_a_with_outside().outside, ..sheet_a_with_flights() };
+    let good = Call::new(plan, (1..=5).flat_map(|kind| [kind, 2, if kind < 5 { 1 } else { 0 }]).collect());
     let numbers = [0, 1, 2, 3, 4, 5, 6, 7, 32, 33, 63, 64, 65, 511, 512, 513, 1_000, 1_001, 86_400, 86_401, 1_000_000, 1_000_001];
     let ends = [8, 16, 31, 32, 62, 63].map(|bits| 1 << bits);
     let mut calls = Vec::new();
     for number in numbers.into_iter().chain(ends).chain([LIMIT, LIMIT + 1, u64::MAX, u64::MAX - 1, i64::MAX as u64]) {
-        let places = [2, 5, 12, 2, 16, 20, 5, 15].into_iter().enumerate();
+        let places = [2, 5, 5, 12, 2, 16, 20, 5, 15].into_iter().enumerate();
         for (list, place) in places.flat_map(|(list, length)| (0..length).map(move |place| (list, place))) {
             let mut call = good.clone();
             match list {
                 0 if place == 0 => call.plan.regions = number,
                 0 => call.plan.sectors = number,
                 1 => call.plan.workloads[place] = number,
-                2 => call.plan.edges[place] = number,
-                3 => call.plan.counts[place] = number,
-                4 => call.plan.visits[place] = number,
-                5 => call.plan.constraints[place] = number,
-                6 => call.plan.colouring[place] = number,
+                2 => call.plan.outside[place] = number,
+                3 => call.plan.edges[place] = number,
+                4 => call.plan.counts[place] = number,
+                5 => call.plan.visits[place] = number,
+                6 => call.plan.constraints[place] = number,
+                7 => call.plan.colouring[place] = number,
                 _ => call.moves[place] = number,
             }
             calls.push(call);
@@ -141,15 +145,16 @@ fn wild_numbers_everywhere() {
 fn numbers_at_their_ends() {
     let mut random = Random::new(1);
     let mut calls = Vec::new();
-    for ends in 0..1 << 7 {
+    for ends in 0..1 << 8 {
         let end = |bit: u32, low: u64, high: u64| if ends >> bit & 1 == 0 { low } else { high };
         let (regions, sectors) = (end(0, 1, REGIONS), end(1, 1, SECTORS));
         for (kind, relation) in [1, 4].into_iter().flat_map(|kind| (1..=6).map(move |r| (kind, r))).chain([(2, 1), (3, 1)]) {
             let mut plan = plan_of(&mut random, regions, sectors);
             plan.workloads.fill(end(2, 0, WORKLOAD));
-            plan.edges.chunks_mut(3).for_each(|edge| edge[2] = end(3, 1, AREA));
-            let constraint = [kind, relation, end(4, 0, LIMIT), end(5, 1, WEIGHT)];
-            plan.constraints = constraint.repeat(end(6, 1, CONSTRAINTS) as usize);
+            plan.outside.fill(end(3, 0, AREA));
+            plan.edges.chunks_mut(3).for_each(|edge| edge[2] = end(4, 1, AREA));
+            let constraint = [kind, relation, end(5, 0, LIMIT), end(6, 1, WEIGHT)];
+            plan.constraints = constraint.repeat(end(7, 1, CONSTRAINTS) as usize);
             let moves = moves(&mut random, &plan, 6);
             calls.push(Call::new(plan, moves));
         }
@@ -184,6 +189,7 @@ fn counts_at_their_ends() {
     let mut random = Random::new(1);
     let plan = largest_plan(&mut random);
     let mut plan = flights_along(&mut random, plan, vec![VISITS; FLIGHTS as usize]);
+    plan.outside.fill_with(|| random.between(0, AREA));
     plan.constraints.chunks_mut(4).step_by(3).for_each(|four| four[0] = 5);
     assert_eq!((plan.edges.len(), plan.visits.len(), plan.constraints.len()), (3 * 2_048, 2 * 64 * 32, 4 * 16));
     let most = moves(&mut random, &plan, MOVES as usize);
@@ -195,6 +201,7 @@ fn counts_at_their_ends() {
         call
     };
     let beyond = [
+        one_more(|call| call.plan.outside.push(0)),
         one_more(|call| call.plan.edges.extend([511, 512, 1])),
         one_more(|call| {
             call.plan.counts.push(1);
@@ -207,10 +214,11 @@ fn counts_at_their_ends() {
         one_more(|call| {
             call.plan.regions += 1;
             call.plan.workloads.push(0);
+            call.plan.outside.push(0);
             call.plan.colouring.push(1);
         }),
     ];
-    for (call, code) in beyond.iter().zip([4, 13, 13, 6, 9, 2, 1]) {
+    for (call, code) in beyond.iter().zip([14, 4, 13, 13, 6, 9, 2, 1]) {
         assert_eq!(by_reference(&mut Memory::of(call)), [code, 0, 0, 0]);
     }
     all_cases("counts beyond their ends", beyond);
@@ -237,6 +245,15 @@ fn forgetful(memory: &mut Memory) -> Answer {
     }
     let answer = by_reference(memory);
     memory.visits = lent.visits;
+    answer
+}
+
+/// A callee to which no region has a face to the outside.
+fn inland(memory: &mut Memory) -> Answer {
+    let lent = memory.clone();
+    memory.outside.slice().fill(0);
+    let answer = by_reference(memory);
+    memory.outside = lent.outside;
     answer
 }
 
@@ -270,4 +287,7 @@ fn a_wrong_callee_is_found_and_its_case_shrunk() {
     let Call { plan: Numbers { regions, edges, visits, constraints, .. }, moves, .. } = shrunk(forgetful);
     assert_eq!((regions, edges.len(), visits.len(), constraints.len(), moves.len()), (1, 0, 4, 4, 0));
     assert_eq!((visits[0], visits[2], constraints[0]), (1, 1, 5));
+
+    let Call { plan: Numbers { outside, edges, counts, constraints, .. }, moves, .. } = shrunk(inland);
+    assert_eq!((outside, edges.len(), counts.len(), constraints.len(), moves.len()), (vec![1], 0, 0, 4, 0));
 }

@@ -15,12 +15,13 @@ use plans::{sheet_a, sheet_a_with_flights, Numbers};
 use reference::{LIMIT, WEIGHT};
 use sheets::{reading, writing, Reading, Sheet, Writing};
 
-/// A plan of regions that share no face and weigh nothing, with these flights and one constraint on them, of weight 1.
+/// A plan of regions that have no face and weigh nothing, with these flights and one constraint on them, of weight 1.
 fn flown(colouring: &[u64], flights: &[&[[u64; 2]]], relation: u64, limit: u64) -> Numbers {
     Numbers {
         regions: colouring.len() as u64,
         sectors: 3,
         workloads: vec![0; colouring.len()],
+        outside: vec![0; colouring.len()],
         edges: vec![],
         counts: flights.iter().map(|flight| flight.len() as u64).collect(),
         visits: flights.concat().concat(),

@@ -61,10 +61,10 @@ fn random_calls() {
 fn random_damaged_calls() {
     random_cases("damaged calls by records", 5_000, |random| {
         let mut call = Call::random(random);
-        if random.once_in(3) {
-            call.plan.break_flights(random);
-        } else {
-            call.plan.break_one(random);
+        match random.between(0, 8) {
+            0 | 1 => call.plan.break_flights(random),
+            2 => call.plan.break_outside(random),
+            _ => call.plan.break_one(random),
         }
         ByRecords::called(call)
     });
@@ -90,7 +90,7 @@ fn random_damaged_writings() {
 
 #[test]
 fn empty_slices() {
-    let refused = library::call_records(5, 2, &[0; 5], &[], &[], &[], &[], &mut [1; 5], &[], &mut [], &mut [], &mut []);
+    let refused = library::call_records(5, 2, &[0; 5], &[0; 5], &[], &[], &[], &[], &mut [1; 5], &[], &mut [], &mut [], &mut []);
     assert_eq!(refused.map_err(|refusal| (refusal.code, refusal.place)), Err((6, 0)));
     let refused = library::write_records(5, 2, &[0; 5], &[], &[], &[1; 5], &mut []);
     assert_eq!(refused.map_err(|refusal| (refusal.code, refusal.place)), Err((6, 0)));

@@ -56,6 +56,7 @@ fn empty_sectors_count() {
         regions: 1,
         sectors: 64,
         workloads: vec![0],
+        outside: vec![0],
         edges: vec![],
         counts: vec![],
         visits: vec![],

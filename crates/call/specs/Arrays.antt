@@ -56,7 +56,7 @@ module _ (n N : ℕ) (h : n ≤ N) where
 
 -- the plan that a call is given
 abbrev planGiven : Given → Plan
-planGiven g = planOf (g .R) (g .S) (g .workloads) (g .edges) (g .counts) (g .visits) (g .constraints)
+planGiven g = planOf (g .R) (g .S) (g .workloads) (g .outside) (g .edges) (g .counts) (g .visits) (g .constraints)
 
 -- how many starts there are where flights visit regions: one for each region and each flight, and one more
 abbrev pub rowCount : Given → ℕ

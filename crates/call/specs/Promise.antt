@@ -1,4 +1,4 @@
--- Document 01, "The call and what it refuses", and document 02, C-11: what a call answers and what it leaves in the lent memory.
+-- Document 01, "The call and what it refuses", and document 02, C-11 and C-12: what a call answers and what it leaves in the lent memory.
 -- Assumes nothing.
 use Prim.Native.Nat.{ℕ, _+_, _*_, _/_}
 use mathlib.Core.Path.{_≡_, sym, _∙_}
@@ -20,6 +20,7 @@ pub record Input : Type 0 where
   pub R : ℕ
   pub S : ℕ
   pub workloads : List ℕ
+  pub outside : List ℕ
   pub edges : List ℕ
   pub counts : List ℕ
   pub visits : List ℕ
@@ -45,6 +46,7 @@ given i =
       R = i .R;
       S = i .S;
       workloads = i .workloads;
+      outside = i .outside;
       edges = i .edges;
       counts = i .counts;
       visits = i .visits;
@@ -57,7 +59,7 @@ given i =
     }
 
 abbrev pub planIn : Input → Plan
-planIn i = planOf (i .R) (i .S) (i .workloads) (i .edges) (i .counts) (i .visits) (i .constraints)
+planIn i = planOf (i .R) (i .S) (i .workloads) (i .outside) (i .edges) (i .counts) (i .visits) (i .constraints)
 
 abbrev pub movesIn : Input → List Move
 movesIn i = movesOf (planIn i) (i .moves)
@@ -109,12 +111,13 @@ pub unique : {i : Input} {o o′ : Outcome} → Promise i o → Promise i o′ �
 unique p q = is-outcome p ∙ sym (is-outcome q)
 
 -- an input and an outcome from their parts
-abbrev pub input : ℕ → ℕ → List ℕ → List ℕ → List ℕ → List ℕ → List ℕ → List ℕ → List ℕ → List ℤ → List ℕ → List ℕ → Input
-input R S workloads edges counts visits constraints colouring moves rows verdicts work =
+abbrev pub input : ℕ → ℕ → List ℕ → List ℕ → List ℕ → List ℕ → List ℕ → List ℕ → List ℕ → List ℕ → List ℤ → List ℕ → List ℕ → Input
+input R S workloads outside edges counts visits constraints colouring moves rows verdicts work =
     record {
       R = R;
       S = S;
       workloads = workloads;
+      outside = outside;
       edges = edges;
       counts = counts;
       visits = visits;

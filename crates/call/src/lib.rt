@@ -38,6 +38,7 @@ fn judge_all(
     sectors: u64,
     whole: u64,
     workloads: &[u64],
+    outside: &[u64],
     edges: &[u64],
     counts: &[u64],
     visits: &[u64],
@@ -58,7 +59,7 @@ fn judge_all(
     queue: &mut [u64],
 ) -> Answer
     ghost { Input }
-    requires { λ i. ⌜ input (length (now workloads)) sectors (now workloads) (now edges) (now counts) (now visits) (now constraints) (now colouring) (now moves) (now rows) (now verdicts) (now work) ≡ i ⌝ }
+    requires { λ i. ⌜ input (length (now workloads)) sectors (now workloads) (now outside) (now edges) (now counts) (now visits) (now constraints) (now colouring) (now moves) (now rows) (now verdicts) (now work) ≡ i ⌝ }
     requires { λ i. ⌜ Valid (given i) ⌝ }
     requires { λ i. ⌜ Setting (planIn i) whole (now start) (now near) (now areas) (now queue) ⌝ }
     requires { λ i. ⌜ Opening (planIn i) (now colouring) (now work) (now gauges) ⌝ }
@@ -69,6 +70,7 @@ fn judge_all(
         sectors,
         whole,
         workloads,
+        outside,
         edges,
         counts,
         visits,
@@ -86,6 +88,7 @@ fn judge_all(
         sectors,
         whole,
         workloads,
+        outside,
         edges,
         counts,
         visits,
@@ -123,6 +126,7 @@ fn run_timed(
     sectors: u64,
     whole: u64,
     workloads: &[u64],
+    outside: &[u64],
     edges: &[u64],
     counts: &[u64],
     visits: &[u64],
@@ -140,7 +144,7 @@ fn run_timed(
     queue: &mut [u64],
 ) -> Answer
     ghost { Input }
-    requires { λ i. ⌜ input (length (now workloads)) sectors (now workloads) (now edges) (now counts) (now visits) (now constraints) (now colouring) (now moves) (now rows) (now verdicts) (now work) ≡ i ⌝ }
+    requires { λ i. ⌜ input (length (now workloads)) sectors (now workloads) (now outside) (now edges) (now counts) (now visits) (now constraints) (now colouring) (now moves) (now rows) (now verdicts) (now work) ≡ i ⌝ }
     requires { λ i. ⌜ Valid (given i) ⌝ }
     requires { λ i. ⌜ Setting (planIn i) whole (now start) (now near) (now areas) (now queue) ⌝ }
     requires { λ i. ⌜ Opening (planIn i) (now colouring) (now work) (now gauges) ⌝ }
@@ -164,6 +168,7 @@ fn run_timed(
         sectors,
         whole,
         workloads,
+        outside,
         edges,
         counts,
         visits,
@@ -190,6 +195,7 @@ fn run(
     regions: u64,
     sectors: u64,
     workloads: &[u64],
+    outside: &[u64],
     edges: &[u64],
     counts: &[u64],
     visits: &[u64],
@@ -201,7 +207,7 @@ fn run(
     work: &mut [u64],
 ) -> Answer
     ghost { Input }
-    requires { λ i. ⌜ input regions sectors (now workloads) (now edges) (now counts) (now visits) (now constraints) (now colouring) (now moves) (now rows) (now verdicts) (now work) ≡ i ⌝ }
+    requires { λ i. ⌜ input regions sectors (now workloads) (now outside) (now edges) (now counts) (now visits) (now constraints) (now colouring) (now moves) (now rows) (now verdicts) (now work) ≡ i ⌝ }
     requires { λ i. ⌜ Valid (given i) ⌝ }
     ensures { λ i r. ⌜ left r (now (colouring .exit)) (now (rows .exit)) (now (verdicts .exit)) (now (work .exit)) ≡ ran i ⌝ }
 {
@@ -221,6 +227,7 @@ fn run(
             sectors,
             whole,
             workloads,
+            outside,
             edges,
             counts,
             visits,
@@ -245,6 +252,7 @@ fn run(
         sectors,
         whole,
         workloads,
+        outside,
         edges,
         counts,
         visits,
@@ -268,6 +276,7 @@ pub fn judge(
     regions: u64,
     sectors: u64,
     workloads: &[u64],
+    outside: &[u64],
     edges: &[u64],
     counts: &[u64],
     visits: &[u64],
@@ -278,12 +287,13 @@ pub fn judge(
     verdicts: &mut [u64],
     work: &mut [u64],
 ) -> Answer
-    ensures { λ r. ⌜ Promise (input regions sectors (now (workloads .entry)) (now (edges .entry)) (now (counts .entry)) (now (visits .entry)) (now (constraints .entry)) (now (colouring .entry)) (now (moves .entry)) (now (rows .entry)) (now (verdicts .entry)) (now (work .entry))) (left r (now (colouring .exit)) (now (rows .exit)) (now (verdicts .exit)) (now (work .exit))) ⌝ }
+    ensures { λ r. ⌜ Promise (input regions sectors (now (workloads .entry)) (now (outside .entry)) (now (edges .entry)) (now (counts .entry)) (now (visits .entry)) (now (constraints .entry)) (now (colouring .entry)) (now (moves .entry)) (now (rows .entry)) (now (verdicts .entry)) (now (work .entry))) (left r (now (colouring .exit)) (now (rows .exit)) (now (verdicts .exit)) (now (work .exit))) ⌝ }
 {
     let refusal = call_refusal(
         regions,
         sectors,
         workloads,
+        outside,
         edges,
         counts,
         visits,
@@ -306,6 +316,7 @@ pub fn judge(
         regions,
         sectors,
         workloads,
+        outside,
         edges,
         counts,
         visits,

@@ -41,6 +41,7 @@ fn turn(
     sectors: u64,
     whole: u64,
     workloads: &[u64],
+    outside: &[u64],
     edges: &[u64],
     counts: &[u64],
     visits: &[u64],
@@ -62,7 +63,7 @@ fn turn(
     standing: Standing,
 ) -> Standing
     ghost { Plan }
-    requires { λ P. ⌜ planOf (length (now workloads)) sectors (now workloads) (now edges) (now counts) (now visits) (now constraints) ≡ P ⌝ }
+    requires { λ P. ⌜ planOf (length (now workloads)) sectors (now workloads) (now outside) (now edges) (now counts) (now visits) (now constraints) ≡ P ⌝ }
     requires { λ P. ⌜ Setting P whole (now start) (now near) (now areas) (now queue) ⌝ }
     requires { λ P. ⌜ Ready P (now colouring) (now work) (now gauges) standing ⌝ }
     requires { λ P. ⌜ moveLength * k + moveLength ≤ length (now moves) ⌝ }
@@ -83,6 +84,7 @@ fn turn(
         sectors,
         whole,
         workloads,
+        outside,
         edges,
         counts,
         visits,
@@ -118,6 +120,7 @@ pub fn all_moves(
     sectors: u64,
     whole: u64,
     workloads: &[u64],
+    outside: &[u64],
     edges: &[u64],
     counts: &[u64],
     visits: &[u64],
@@ -138,7 +141,7 @@ pub fn all_moves(
     first: Standing,
 ) -> Standing
     ghost { Plan }
-    requires { λ P. ⌜ planOf (length (now workloads)) sectors (now workloads) (now edges) (now counts) (now visits) (now constraints) ≡ P ⌝ }
+    requires { λ P. ⌜ planOf (length (now workloads)) sectors (now workloads) (now outside) (now edges) (now counts) (now visits) (now constraints) ≡ P ⌝ }
     requires { λ P. ⌜ Setting P whole (now start) (now near) (now areas) (now queue) ⌝ }
     requires { λ P. ⌜ Ready P (now colouring) (now work) (now gauges) first ⌝ }
     requires { λ P. ⌜ rowLength * (length (now moves) / moveLength) ≤ length (now rows) ⌝ }
@@ -154,6 +157,7 @@ pub fn all_moves(
             sectors,
             whole,
             workloads,
+            outside,
             edges,
             counts,
             visits,

@@ -10,11 +10,11 @@ use lib.Dec.{eqb}
 use lib.ListN.{set}
 use Rattle.lists.specs.Sums.{In, at}
 use Rattle.lists.specs.Places.{table-change}
-use Rattle.meaning.specs.Plan.{Plan, Limits, Coloured, mostEdges, mostArea}
+use Rattle.meaning.specs.Plan.{Plan, Limits, Coloured}
 use Rattle.meaning.specs.Kinds.{ncc, load, border, counts, loads, leadsTo}
 use Rattle.meaning.specs.Moves.{recolour}
 use Rattle.meaning.specs.Faces.{lift, areaTo}
-use Rattle.meaning.specs.Bounds.{border-bound}
+use Rattle.meaning.specs.Bounds.{mostBorder, border-bound}
 use Rattle.meaning.specs.Prices.{mostDwellTotal, timed, visitorsPrice, dwellTotal}
 use Rattle.meaning.specs.PriceLaws.{dwell-recolour, dwell-total-bound, cost-bound}
 use Rattle.meaning.specs.Recoloured.{coloured-recolour, load-rest, ncc-rest, border-recolour}
@@ -57,12 +57,12 @@ pub record Changed (P : Plan) (col col′ : List ℕ) (own d : ℕ) (c : Change)
   pub before : c .before ≡ sidesOf P col own d
   pub after : c .after ≡ sidesOf P col′ own d
   pub others : (e : ℕ) → In (P .S) e → e ≢ own → e ≢ d → (ncc P col′ e ≡ ncc P col e) × (load P col′ e ≡ load P col e)
-  pub border : Swung (border P col) (border P col′) (mostEdges * mostArea) (c .border)
+  pub border : Swung (border P col) (border P col′) mostBorder (c .border)
   pub dwell : Swung (dwellTotal P col) (dwellTotal P col′) mostDwellTotal (c .dwell)
 
 -- the change gains no more than one recolouring can add
 pub record Single (c : Change) : Type 0 where
-  pub border : c .border .gained ≤ mostEdges * mostArea
+  pub border : c .border .gained ≤ mostBorder
   pub dwell : c .dwell .gained ≤ mostDwellTotal
 
 module _ {P : Plan} {col col′ : List ℕ} {own d : ℕ} {c : Change} (ch : Changed P col col′ own d c) where
@@ -76,10 +76,10 @@ module _ {P : Plan} {col col′ : List ℕ} {own d : ℕ} {c : Change} (ch : Cha
   unfolding loads
   changed-loads = table-change (load P col′) (load P col) (ch .old) (ch .new) (λ e h n m. ch .others e h n m .1)
 
--- the faces of a region to a sector have no more than the area of all edges
-pub faces-bound : {P : Plan} → Limits P → (col : List ℕ) (v d : ℕ) → areaTo (P .edges) col v d ≤ mostEdges * mostArea
+-- the faces of a region to a sector have no more area than a border may have
+pub faces-bound : {P : Plan} → Limits P → (col : List ℕ) (v d : ℕ) → areaTo (P .edges) col v d ≤ mostBorder
 unfolding areaTo
-faces-bound {P} l col v d = area-bound (edges-small P l) (leadsTo (λ u. eqb (at col u) d) v)
+faces-bound {P} l col v d = omega (arith, area-bound (edges-small P l) (leadsTo (λ u. eqb (at col u) d) v))
 
 -- what the flights that visit a region cost, by all their stretches
 abbrev pub costAt : Plan → List ℕ → ℕ → ℕ

@@ -49,6 +49,7 @@ pub record SamePlan (i j : Input) : Type 0 where
   pub R : i .R ≡ j .R
   pub S : i .S ≡ j .S
   pub workloads : i .workloads ≡ j .workloads
+  pub outside : i .outside ≡ j .outside
   pub edges : i .edges ≡ j .edges
   pub counts : i .counts ≡ j .counts
   pub visits : i .visits ≡ j .visits
@@ -56,7 +57,7 @@ pub record SamePlan (i j : Input) : Type 0 where
 
 -- their plans are equal
 pub same-plan : {i j : Input} → SamePlan i j → planIn i ≡ planIn j
-same-plan s = rw (s .R, s .S, s .workloads, s .edges, s .counts, s .visits, s .constraints)
+same-plan s = rw (s .R, s .S, s .workloads, s .outside, s .edges, s .counts, s .visits, s .constraints)
 
 -- ---- lengths
 

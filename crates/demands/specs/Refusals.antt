@@ -1,4 +1,4 @@
--- When a call gives each code, and with which place: document 01's table, with code 13 of document 02, code by code.
+-- When a call gives each code, and with which place: document 01's table, with codes 13 and 14 of document 02, code by code.
 -- Assumes nothing.
 use Prim.Native.Nat.{ℕ, _*_, _/_, _≤_}
 use native.Mathlib.Omega.{arith}
@@ -9,13 +9,13 @@ use borrow.Author.Tests.{eq-eqb, ne-eqb}
 use lib.Dec.{T}
 use lib.ListN.{length, getD}
 use Rattle.lists.specs.Sums.{In, sum}
-use Rattle.meaning.specs.Plan.{edgeLength, visitLength, constraintLength, mostWorkload, mostFlights, mostVisits, mostKind}
-use Rattle.refusals.specs.Table.{refused, refusal, workloadRight, edgeRight, countRight, flightRight, constraintRight, sectorRight, planTable, roomTable, callTable, callRefusal}
+use Rattle.meaning.specs.Plan.{edgeLength, visitLength, constraintLength, mostWorkload, mostArea, mostFlights, mostVisits, mostKind}
+use Rattle.refusals.specs.Table.{refused, refusal, atMost, edgeRight, countRight, flightRight, constraintRight, sectorRight, planTable, roomTable, callTable, callRefusal}
 use Rattle.refusals.specs.Valid.{refusal-place}
 use Rattle.call.specs.Promise.{Input, Outcome, Promise, given, refusedBy, ran, outcome, is-outcome}
 use Rattle.demands.specs.Calls.{answer-code}
 use Rattle.demands.specs.Tables.{All, before, ruleOf, once, Among, inOrder, groupOf, code-among, none-given, code-given, given-by}
-use Rattle.demands.specs.Rules.{First, ListPlace, EdgeRules, FlightRules, ConstraintRules, RegionsFit, SectorsFit, WorkloadsFit, EdgeCountFits, EdgesFit, CountsFit, VisitsFit, ConstraintCountFits, ConstraintsFit, ColouringFits, MovesFit, RowsFit, VerdictsFit, WorkFits, rules}
+use Rattle.demands.specs.Rules.{First, ListPlace, EdgeRules, FlightRules, ConstraintRules, RegionsFit, SectorsFit, WorkloadsFit, OutsideFits, EdgeCountFits, EdgesFit, CountsFit, VisitsFit, ConstraintCountFits, ConstraintsFit, ColouringFits, MovesFit, RowsFit, VerdictsFit, WorkFits, rules}
 use Rattle.demands.specs.RuleLaws.{at-most, equal, one-of, edge-rules, flight-rules, constraint-rules, no-place, each-place, list-place, lists-place, callGroups, groups-all, groups-stand}
 
 -- a code is given exactly when the rules of the codes before it hold and its own does not, and then with a place that is so
@@ -72,7 +72,12 @@ module _ {i : Input} {o : Outcome} (p : Promise i o) where
   -- code 3: workload list not R long; else a workload too large, with its place
   pub code-3 : Due i o 3 (WorkloadsFit (given i)) (ListPlace (length (i .workloads) ≡ i .R) (length (i .workloads)) (λ k. getD (i .workloads) k 0 ≤ mostWorkload))
   unfolding callTable planTable roomTable
-  code-3 = due 3 (omega arith) tt (list-place 3 (length (i .workloads)) (workloadRight (i .workloads)) (λ k. at-most _ _) _ (equal (length (i .workloads)) (i .R)))
+  code-3 = due 3 (omega arith) tt (list-place 3 (length (i .workloads)) (atMost mostWorkload (i .workloads)) (λ k. at-most _ _) _ (equal (length (i .workloads)) (i .R)))
+
+  -- code 14: outside list not R long; else an outside area too large, with its place
+  pub code-14 : Due i o 14 (OutsideFits (given i)) (ListPlace (length (i .outside) ≡ i .R) (length (i .outside)) (λ k. getD (i .outside) k 0 ≤ mostArea))
+  unfolding callTable planTable roomTable
+  code-14 = due 14 (omega arith) tt (list-place 14 (length (i .outside)) (atMost mostArea (i .outside)) (λ k. at-most _ _) _ (equal (length (i .outside)) (i .R)))
 
   -- code 4, no place: edge numbers not a multiple of three, or over 2,048 edges
   pub code-4 : Due i o 4 (EdgeCountFits (given i)) (λ place. place ≡ 0)

@@ -15,9 +15,9 @@ use lib.ListN.{length, take, drop}
 use Rattle.lists.specs.Sums.{In, sum, Every}
 use Rattle.lists.specs.Tests.{or-cases}
 use Rattle.terms.specs.Plan.{within}
-use Rattle.meaning.specs.Plan.{Visit, VisitLimits, edgeLength, visitLength, constraintLength, edgeAt, constraintAt, mostRegions, mostSectors, mostEdges, mostArea, mostFlights, mostVisits, mostDwell, mostKind, mostConstraints, mostLimit, mostWeight, mostMoves}
+use Rattle.meaning.specs.Plan.{Visit, VisitLimits, edgeLength, visitLength, constraintLength, edgeAt, constraintAt, mostRegions, mostSectors, mostWorkload, mostEdges, mostArea, mostFlights, mostVisits, mostDwell, mostKind, mostConstraints, mostLimit, mostWeight, mostMoves}
 use Rattle.meaning.specs.Moves.{moveLength, rowLength, verdictLength}
-use Rattle.refusals.specs.Table.{Row, refused, none, whole, each, offFrom, firstOff, refusal, workloadRight, edgeRight, countRight, visitsRight, flightRight, constraintRight, sectorRight, records, planTable, roomTable, Given, callTable}
+use Rattle.refusals.specs.Table.{Row, refused, none, whole, each, offFrom, firstOff, refusal, atMost, edgeRight, countRight, visitsRight, flightRight, constraintRight, sectorRight, records, planTable, roomTable, Given, callTable}
 use Rattle.refusals.specs.Passed.{passed-each, each-passed}
 use Rattle.demands.specs.Tables.{inOrder, Stand, first-or-others}
 use Rattle.demands.specs.Rules.{Each, First, ListPlace, EdgeRules, ConstraintRules, rules}
@@ -201,9 +201,9 @@ abbrev groups : List ℕ → List Row → List (List Row)
 groups [] rs = []
 groups (n ∷ ns) rs = take n rs ∷ groups ns (drop n rs)
 
--- the call's table by its codes: of codes 3 and 8 there are two rows, one on the whole list and one on each item, and of code 13 two such pairs
+-- the call's table by its codes: of codes 3, 14 and 8 there are two rows, one on the whole list and one on each item, and of code 13 two such pairs
 abbrev pub callGroups : Given → List (List Row)
-callGroups g = groups (1 ∷ 1 ∷ 2 ∷ 1 ∷ 1 ∷ 4 ∷ 1 ∷ 1 ∷ 2 ∷ 1 ∷ 1 ∷ 1 ∷ 1 ∷ []) (callTable g)
+callGroups g = groups (1 ∷ 1 ∷ 2 ∷ 2 ∷ 1 ∷ 1 ∷ 4 ∷ 1 ∷ 1 ∷ 2 ∷ 1 ∷ 1 ∷ 1 ∷ 1 ∷ []) (callTable g)
 
 -- the groups have all rows of the table, in its order
 pub groups-all : (g : Given) → inOrder (callGroups g) ≡ callTable g
@@ -221,7 +221,8 @@ unfolding callTable planTable roomTable
 groups-stand g =
     alone (whole-passes 1 (one-of mostRegions (g .R)))
     then alone (whole-passes 2 (one-of mostSectors (g .S)))
-    then two (whole-passes 3 (equal (length (g .workloads)) (g .R))) (each-passes (workloadRight (g .workloads)) 3 (length (g .workloads)) (λ k. at-most _ _))
+    then two (whole-passes 3 (equal (length (g .workloads)) (g .R))) (each-passes (atMost mostWorkload (g .workloads)) 3 (length (g .workloads)) (λ k. at-most _ _))
+    then two (whole-passes 14 (equal (length (g .outside)) (g .R))) (each-passes (atMost mostArea (g .outside)) 14 (length (g .outside)) (λ k. at-most _ _))
     then alone (whole-passes 4 (some-records edgeLength mostEdges (g .edges)))
     then alone (each-passes (edgeRight (g .R) (g .edges)) 5 (length (g .edges) / edgeLength) (edge-rules (g .R) (g .edges)))
     then four

@@ -1,4 +1,4 @@
--- Document 01's table of codes, with that of document 02, C-11, turned round: the rule that each code stands for, and the place that it names.
+-- Document 01's table of codes, with those of document 02, C-11 and C-12, turned round: the rule that each code stands for, and the place that it names.
 -- Assumes nothing.
 use Prim.Native.Nat.{ℕ, _+_, _-_, _*_, _/_, _%_, _≤_, _<_}
 use mathlib.Core.Path.{_≡_}
@@ -6,7 +6,7 @@ use mathlib.Core.Logic.{_⊎_}
 use mathlib.Core.List.{List, [], _∷_}
 use lib.ListN.{length, getD}
 use Rattle.lists.specs.Sums.{In, sum, Every}
-use Rattle.meaning.specs.Plan.{Edge, EdgeLimits, VisitLimits, ConstraintLimits, edgeLength, visitLength, constraintLength, edgeAt, flightsOf, constraintAt, mostRegions, mostSectors, mostWorkload, mostEdges, mostFlights, mostVisits, mostConstraints, mostMoves}
+use Rattle.meaning.specs.Plan.{Edge, EdgeLimits, VisitLimits, ConstraintLimits, edgeLength, visitLength, constraintLength, edgeAt, flightsOf, constraintAt, mostRegions, mostSectors, mostWorkload, mostEdges, mostArea, mostFlights, mostVisits, mostConstraints, mostMoves}
 use Rattle.meaning.specs.Moves.{moveLength, rowLength, verdictLength}
 use Rattle.refusals.specs.Table.{Given}
 use Rattle.demands.specs.Tables.{Rule}
@@ -54,6 +54,10 @@ SectorsFit g = In mostSectors (g .S)
 -- code 3: the workload list is R long, and no workload is too large
 abbrev pub WorkloadsFit : Given → Type 0
 WorkloadsFit g = (length (g .workloads) ≡ g .R) × Each (length (g .workloads)) (λ k. getD (g .workloads) k 0 ≤ mostWorkload)
+
+-- code 14: the outside list is R long, and no outside area is too large
+abbrev pub OutsideFits : Given → Type 0
+OutsideFits g = (length (g .outside) ≡ g .R) × Each (length (g .outside)) (λ k. getD (g .outside) k 0 ≤ mostArea)
 
 -- code 4: the edge numbers are a multiple of three, and there are not over 2,048 edges
 abbrev pub EdgeCountFits : Given → Type 0
@@ -110,6 +114,7 @@ rules g =
     (1 asks RegionsFit g)
     ∷ (2 asks SectorsFit g)
     ∷ (3 asks WorkloadsFit g)
+    ∷ (14 asks OutsideFits g)
     ∷ (4 asks EdgeCountFits g)
     ∷ (5 asks EdgesFit g)
     ∷ (13 asks (CountsFit g × VisitsFit g))

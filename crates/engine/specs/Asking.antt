@@ -15,22 +15,22 @@ use Rattle.lists.specs.ListLaws.{length-listOf}
 use Rattle.lists.specs.Tests.{cond-le}
 use Rattle.terms.specs.Distance.{gap, distance}
 use Rattle.terms.specs.DistanceLaws.{distance-bound}
-use Rattle.meaning.specs.Plan.{Constraint, Plan, ConstraintLimits, constraintAt, constraintsOf, mostRegions, mostEdges, mostArea, mostConstraints, mostLimit, mostWeight}
+use Rattle.meaning.specs.Plan.{Constraint, Plan, ConstraintLimits, constraintAt, constraintsOf, mostRegions, mostConstraints, mostLimit, mostWeight}
 use Rattle.meaning.specs.Kinds.{ncc, load, whole, areaOf, leadsTo, byKind, offBalance, borderOf, partOf, regionViolation}
-use Rattle.meaning.specs.Bounds.{ncc-bound, load-bound, whole-bound}
+use Rattle.meaning.specs.Bounds.{mostBorder, ncc-bound, load-bound, whole-bound, border-of-bound}
 use Rattle.meaning.specs.Prices.{timed, visitorsPrice}
 use Rattle.meaning.specs.PriceLaws.{region-parts, cost-bound}
 use Rattle.neighbours.specs.Table.{Table}
 use Rattle.search.specs.Weighing.{Weighable}
 use Rattle.judge.specs.Figures.{constraintCount, unweighted}
-use Rattle.judge.specs.Small.{mostLoad, mostGap, mostDistance, edges-small, area-bound, constraint-limits}
+use Rattle.judge.specs.Small.{mostLoad, mostGap, mostDistance, constraint-limits}
 use Rattle.engine.specs.declared.ask.Own.{Own}
 use Rattle.engine.specs.Memory.{countAt, Kept, kept-sides}
 
 -- what a region has, as small as in a plan within its limits
 pub record SmallOwn (o : Own) : Type 0 where
   pub excess : o .excess ≤ mostRegions
-  pub border : o .border ≤ mostEdges * mostArea
+  pub border : o .border ≤ mostBorder
   pub balance : o .balance ≤ mostGap
   pub workload : o .workload ≤ mostLoad
 
@@ -144,24 +144,32 @@ module _ {P : Plan} {W : ℕ} {start near areas col w : List ℕ} {v : ℕ} (a :
 
   -- what the region has is small
   own-small : SmallOwn (ownOf P col v)
-  unfolding borderOf
   own-small =
       record {
         excess = omega (arith, ncc-bound P (a .kept .limits) col (at col v));
-        border = area-bound (edges-small P (a .kept .limits)) (leadsTo (λ u. not (eqb (at col u) (at col v))) v);
+        border = border-of-bound P (a .kept .limits) col v;
         balance = omega (arith, whole-bound P (a .kept .limits), mul-le-mul (a .kept .limits .S .high) (load-bound P (a .kept .limits) col (at col v)));
         workload = load-bound P (a .kept .limits) col (at col v);
       }
 
+  module _ {b : ℕ} (f : b ≡ areaOf (P .edges) (leadsTo (λ u. not (eqb (at col u) (at col v))) v)) where
+    -- with its face to the outside its edges make the region's border
+    asking-border : b + at (P .outside) v ≡ borderOf P col v
+    unfolding borderOf
+    asking-border = rw f
+
+    -- which fits
+    pub asking-border-fits : b + at (P .outside) v < 2 ^ 64
+    asking-border-fits = omega (arith, asking-border, border-of-bound P (a .kept .limits) col v)
+
   module _ {n b g : ℕ} (e : n ≡ getD w (countAt (P .R) (at col v)) 0 - 1) (f : b ≡ areaOf (P .edges) (leadsTo (λ u. not (eqb (at col u) (at col v))) v)) (h : g ≡ gap (P .S * getD w (countAt (P .R) (at col v) + P .S) 0) W) where
     -- what is read and made of it is what the region has
-    asking-own : record { excess = n; border = b; balance = g; workload = getD w (countAt (P .R) (at col v) + P .S) 0 } ≡ ownOf P col v
-    unfolding borderOf
-    asking-own = rw (e, f, h, asking-count, asking-load, a .whole)
+    asking-own : record { excess = n; border = b + at (P .outside) v; balance = g; workload = getD w (countAt (P .R) (at col v) + P .S) 0 } ≡ ownOf P col v
+    asking-own = rw (e, asking-border f, h, asking-count, asking-load, a .whole)
 
     module _ (constraints : List ℕ) (c : P .constraints ≡ constraintsOf constraints) where
       -- it can be weighed
-      pub asking-weighing : Weighing (record { excess = n; border = b; balance = g; workload = getD w (countAt (P .R) (at col v) + P .S) 0 }) constraints
+      pub asking-weighing : Weighing (record { excess = n; border = b + at (P .outside) v; balance = g; workload = getD w (countAt (P .R) (at col v) + P .S) 0 }) constraints
       unfolding constraintsOf
       asking-weighing =
           rw asking-own
@@ -172,11 +180,11 @@ module _ {P : Plan} {W : ℕ} {start near areas col w : List ℕ} {v : ℕ} (a :
           })
 
       -- both fit
-      pub asking-sum : {r d : ℕ} → r ≡ partsBy (record { excess = n; border = b; balance = g; workload = getD w (countAt (P .R) (at col v) + P .S) 0 }) constraints → d ≡ stretchesCost P col v → r + d < 2 ^ 64
+      pub asking-sum : {r d : ℕ} → r ≡ partsBy (record { excess = n; border = b + at (P .outside) v; balance = g; workload = getD w (countAt (P .R) (at col v) + P .S) 0 }) constraints → d ≡ stretchesCost P col v → r + d < 2 ^ 64
       asking-sum p q = omega (arith, p, q, parts-bound asking-weighing, cost-bound (a .kept .limits) col false v)
 
       -- and, with what the stretches cost that visit it, makes the region's violation
-      pub asking-violation : {r d : ℕ} → r ≡ partsBy (record { excess = n; border = b; balance = g; workload = getD w (countAt (P .R) (at col v) + P .S) 0 }) constraints → d ≡ stretchesCost P col v → r + d ≡ regionViolation P col v
+      pub asking-violation : {r d : ℕ} → r ≡ partsBy (record { excess = n; border = b + at (P .outside) v; balance = g; workload = getD w (countAt (P .R) (at col v) + P .S) 0 }) constraints → d ≡ stretchesCost P col v → r + d ≡ regionViolation P col v
       unfolding partsBy constraintsOf
       asking-violation p q =
           rw (p, q, asking-own)

@@ -7,19 +7,19 @@ use mathlib.Core.List.{List, _++_, append-assoc}
 use lib.ListN.{length, take, drop, length-append, length-drop}
 use lib.Seq.{length-take-le, drop-drop, take-at, drop-at}
 use borrow.Rule.Slice.PartMut.{putMid, mid-len, same-len-mid}
-use Rattle.lists.specs.Sums.{at, bit, Every}
+use Rattle.lists.specs.Sums.{at, bit, sum, Every}
 use Rattle.lists.specs.ListLaws.{length-listOf}
 use Rattle.lists.specs.Few.{Few}
-use Rattle.meaning.specs.Plan.{Plan, Limits, Coloured, ConstraintLimits, constraintAt, constraintsOf, mostSectors}
+use Rattle.meaning.specs.Plan.{Plan, Limits, Coloured, ConstraintLimits, constraintAt, constraintsOf, mostRegions, mostSectors, mostArea}
 use Rattle.meaning.specs.Joined.{labels, leads}
 use Rattle.meaning.specs.Kinds.{whole, crosses, areaOf, border, counts, loads, total}
 use Rattle.meaning.specs.Prices.{dwellTotal}
 use Rattle.neighbours.specs.Net.{Net, table-net}
 use Rattle.judge.specs.declared.Figures.{Figures}
 use Rattle.judge.specs.Figures.{figuresOf, figuresBy, gauges, gaugesBy, constraintCount, totalBy, tally}
-use Rattle.judge.specs.Small.{mostLoad, SmallEdges, SmallTallies, Small, edges-small, tallies-small, loads-small, plan-small}
+use Rattle.judge.specs.Small.{mostLoad, SmallEdges, SmallTallies, Small, outside-small, edges-small, tallies-small, loads-small, plan-small}
 use Rattle.judge.specs.Tallies.{Tallying, plan-tallying, counts-by, loads-by}
-use Rattle.judge.specs.FigureLaws.{figures-by, gauges-by, total-by}
+use Rattle.judge.specs.FigureLaws.{border-by, figures-by, gauges-by, total-by}
 use Rattle.relabel.specs.Labelling.{Labellable}
 use Rattle.engine.specs.State.{memory, memoryLength, Setting, Opening, Opened}
 use Rattle.engine.specs.Memory.{Kept, both-length, memory-kept, kept-counts, kept-loads}
@@ -156,14 +156,13 @@ module _ {P : Plan} {W : ℕ} {start near areas col w gs q : List ℕ} (s : Sett
       record { limits = s .limits; net = table-net (s .table); coloured = o .coloured; room = o .room; queue = s .queue }
 
   module _ {col′ : List ℕ} (k : col′ ≡ col) where
-    -- the edges are few, and their ends are regions
-    pub opening-edges : SmallEdges (length col′) (P .edges)
-    opening-edges = rw (k, o .coloured .size) (edges-small P (s .limits))
+    -- the faces to the outside and the edges are few, and the edges' ends are regions
+    pub opening-faces : Few mostRegions mostArea (P .outside) × SmallEdges (length col′) (P .edges)
+    opening-faces = (outside-small P (s .limits), rw (k, o .coloured .size) (edges-small P (s .limits)))
 
     -- they make the border
-    opening-border : {t : ℕ} → t ≡ areaOf (P .edges) (crosses col′) → t ≡ border P col
-    unfolding border
-    opening-border e = e ∙ rw k
+    opening-border : {t : ℕ} → t ≡ areaOf (P .edges) (crosses col′) + sum (P .outside) (λ a. a) → t ≡ border P col
+    opening-border e = e ∙ rw k (border-by P col (s .limits .outside))
 
   module _ {w′ : List ℕ} (m : w′ ≡ memory P col ++ drop (memoryLength P) w) where
     -- the front is that of the colouring
@@ -189,7 +188,7 @@ module _ {P : Plan} {W : ℕ} {start near areas col w gs q : List ℕ} (s : Sett
       opening-gauging =
           (rw loads-read (loads-small P (s .limits) col), (rw c at (s .limits .constraint), o .gauges ∙ ap length c ∙ length-listOf (constraintCount constraints) (constraintAt constraints)))
 
-      module _ {col′ : List ℕ} (k : col′ ≡ col) {t d : ℕ} (e : t ≡ areaOf (P .edges) (crosses col′)) (h : d ≡ dwellTotal P col′) {F : Figures} (f : F ≡ figuresBy (P .S) W (firstPart (P .R) (P .S) w′) (secondPart (P .R) (P .S) w′) t d) {gs′ : List ℕ} (g : gs′ ≡ gaugesBy (secondPart (P .R) (P .S) w′) constraints) where
+      module _ {col′ : List ℕ} (k : col′ ≡ col) {t d : ℕ} (e : t ≡ areaOf (P .edges) (crosses col′) + sum (P .outside) (λ a. a)) (h : d ≡ dwellTotal P col′) {F : Figures} (f : F ≡ figuresBy (P .S) W (firstPart (P .R) (P .S) w′) (secondPart (P .R) (P .S) w′) t d) {gs′ : List ℕ} (g : gs′ ≡ gaugesBy (secondPart (P .R) (P .S) w′) constraints) where
         -- the figures are those of the colouring
         opening-figures : F ≡ figuresOf P col
         opening-figures = f ∙ rw (counts-read, loads-read, s .whole, opening-border k e, h, k) (figures-by P col (o .coloured))

@@ -77,6 +77,7 @@ pub fn region_violation(
     sectors: u64,
     whole: u64,
     workloads: &[u64],
+    outside: &[u64],
     edges: &[u64],
     counts: &[u64],
     visits: &[u64],
@@ -93,7 +94,7 @@ pub fn region_violation(
     region: u64,
 ) -> u64
     ghost { Plan }
-    requires { λ P. ⌜ planOf (length (now workloads)) sectors (now workloads) (now edges) (now counts) (now visits) (now constraints) ≡ P ⌝ }
+    requires { λ P. ⌜ planOf (length (now workloads)) sectors (now workloads) (now outside) (now edges) (now counts) (now visits) (now constraints) ≡ P ⌝ }
     requires { λ P. ⌜ Asking P whole (now start) (now near) (now areas) (now colouring) (now work) region ⌝ }
     requires { λ P. ⌜ Flown P (now timed) (now counts) (now visits) (now visited) (now flights) (now firsts) ⌝ }
     ensures { λ P r. ⌜ r ≡ regionViolation P (now (colouring .entry)) region ⌝ }
@@ -102,9 +103,11 @@ pub fn region_violation(
     let own = colouring[v - 1];
     let at = workloads.len() + own as usize - 1;
     let workload = work[at + sectors as usize];
+    let inside = search::border_at(edges, start, near, areas, colouring, v, own);
+    let border = inside + outside[v - 1];
     let had = Own {
         excess: terms::excess(work[at], 1),
-        border: search::border_at(edges, start, near, areas, colouring, v, own),
+        border,
         balance: terms::apart(sectors * workload, whole),
         workload,
     };

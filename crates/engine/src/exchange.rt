@@ -37,6 +37,7 @@ use terms::limits::MOST_REGIONS;
 fn change_both(
     sectors: u64,
     workloads: &[u64],
+    outside: &[u64],
     edges: &[u64],
     counts: &[u64],
     visits: &[u64],
@@ -55,7 +56,7 @@ fn change_both(
     second: u64,
 ) -> Change
     ghost { Plan }
-    requires { λ P. ⌜ planOf (length (now workloads)) sectors (now workloads) (now edges) (now counts) (now visits) (now constraints) ≡ P ⌝ }
+    requires { λ P. ⌜ planOf (length (now workloads)) sectors (now workloads) (now outside) (now edges) (now counts) (now visits) (now constraints) ≡ P ⌝ }
     requires { λ P. ⌜ Swapping P (now start) (now near) (now areas) (now colouring) (now queue) first second ⌝ }
     requires { λ P. ⌜ Kept P (now colouring) (now work) ⌝ }
     requires { λ P. ⌜ Flown P (now timed) (now counts) (now visits) (now visited) (now flights) (now firsts) ⌝ }
@@ -68,6 +69,7 @@ fn change_both(
     let once = change_at(
         sectors,
         workloads,
+        outside,
         edges,
         counts,
         visits,
@@ -89,6 +91,7 @@ fn change_both(
     let twice = change_anew(
         sectors,
         workloads,
+        outside,
         edges,
         counts,
         visits,
@@ -115,6 +118,7 @@ pub fn probe(
     sectors: u64,
     whole: u64,
     workloads: &[u64],
+    outside: &[u64],
     edges: &[u64],
     counts: &[u64],
     visits: &[u64],
@@ -135,7 +139,7 @@ pub fn probe(
     second: u64,
 ) -> u64
     ghost { Plan }
-    requires { λ P. ⌜ planOf (length (now workloads)) sectors (now workloads) (now edges) (now counts) (now visits) (now constraints) ≡ P ⌝ }
+    requires { λ P. ⌜ planOf (length (now workloads)) sectors (now workloads) (now outside) (now edges) (now counts) (now visits) (now constraints) ≡ P ⌝ }
     requires { λ P. ⌜ Exchanging P whole (now start) (now near) (now areas) (now colouring) (now work) (now gauges) (now queue) standing first second ⌝ }
     requires { λ P. ⌜ Flown P (now timed) (now counts) (now visits) (now visited) (now flights) (now firsts) ⌝ }
     ensures { λ P r. ⌜ r ≡ total P (swap (now (colouring .entry)) first second) ⌝ }
@@ -149,6 +153,7 @@ pub fn probe(
     let change = change_both(
         sectors,
         workloads,
+        outside,
         edges,
         counts,
         visits,
@@ -184,6 +189,7 @@ fn together(once: Turned, twice: Turned, relabelled: u64) -> Turned
 fn turn_both(
     sectors: u64,
     workloads: &[u64],
+    outside: &[u64],
     edges: &[u64],
     counts: &[u64],
     visits: &[u64],
@@ -203,7 +209,7 @@ fn turn_both(
     second: u64,
 ) -> Turned
     ghost { Plan }
-    requires { λ P. ⌜ planOf (length (now workloads)) sectors (now workloads) (now edges) (now counts) (now visits) (now constraints) ≡ P ⌝ }
+    requires { λ P. ⌜ planOf (length (now workloads)) sectors (now workloads) (now outside) (now edges) (now counts) (now visits) (now constraints) ≡ P ⌝ }
     requires { λ P. ⌜ Swapping P (now start) (now near) (now areas) (now colouring) (now queue) first second ⌝ }
     requires { λ P. ⌜ before ≡ sidesOf P (now colouring) (at (now colouring) first) (at (now colouring) second) ⌝ }
     requires { λ P. ⌜ now labels ≡ labelsOf (P .edges) (now colouring) ⌝ }
@@ -218,6 +224,7 @@ fn turn_both(
     let once = turn(
         sectors,
         workloads,
+        outside,
         edges,
         counts,
         visits,
@@ -240,6 +247,7 @@ fn turn_both(
     let twice = turn(
         sectors,
         workloads,
+        outside,
         edges,
         counts,
         visits,
@@ -266,6 +274,7 @@ pub fn make(
     sectors: u64,
     whole: u64,
     workloads: &[u64],
+    outside: &[u64],
     edges: &[u64],
     counts: &[u64],
     visits: &[u64],
@@ -286,7 +295,7 @@ pub fn make(
     second: u64,
 ) -> Made
     ghost { Plan }
-    requires { λ P. ⌜ planOf (length (now workloads)) sectors (now workloads) (now edges) (now counts) (now visits) (now constraints) ≡ P ⌝ }
+    requires { λ P. ⌜ planOf (length (now workloads)) sectors (now workloads) (now outside) (now edges) (now counts) (now visits) (now constraints) ≡ P ⌝ }
     requires { λ P. ⌜ Exchanging P whole (now start) (now near) (now areas) (now colouring) (now work) (now gauges) (now queue) standing first second ⌝ }
     requires { λ P. ⌜ Flown P (now timed) (now counts) (now visits) (now visited) (now flights) (now firsts) ⌝ }
     ensures { λ P r. ⌜ Remade P (now (colouring .entry)) (now (work .entry)) (swap (now (colouring .entry)) first second) (now (colouring .exit)) (now (work .exit)) (now (gauges .exit)) r ⌝ }
@@ -304,6 +313,7 @@ pub fn make(
     let turned = turn_both(
         sectors,
         workloads,
+        outside,
         edges,
         counts,
         visits,
@@ -326,6 +336,7 @@ pub fn make(
         sectors,
         whole,
         workloads,
+        outside,
         edges,
         counts,
         visits,

@@ -48,6 +48,7 @@ pub fn step(
     sectors: u64,
     whole: u64,
     workloads: &[u64],
+    outside: &[u64],
     edges: &[u64],
     counts: &[u64],
     visits: &[u64],
@@ -67,7 +68,7 @@ pub fn step(
     asked: Move,
 ) -> Stepped
     ghost { Plan }
-    requires { λ P. ⌜ planOf (length (now workloads)) sectors (now workloads) (now edges) (now counts) (now visits) (now constraints) ≡ P ⌝ }
+    requires { λ P. ⌜ planOf (length (now workloads)) sectors (now workloads) (now outside) (now edges) (now counts) (now visits) (now constraints) ≡ P ⌝ }
     requires { λ P. ⌜ Setting P whole (now start) (now near) (now areas) (now queue) ⌝ }
     requires { λ P. ⌜ Ready P (now colouring) (now work) (now gauges) standing ⌝ }
     requires { λ P. ⌜ Within P asked ⌝ }
@@ -86,6 +87,7 @@ pub fn step(
                     sectors,
                     whole,
                     workloads,
+                    outside,
                     edges,
                     counts,
                     visits,
@@ -116,6 +118,7 @@ pub fn step(
                 sectors,
                 whole,
                 workloads,
+                outside,
                 edges,
                 counts,
                 visits,
@@ -151,6 +154,7 @@ pub fn step(
                     sectors,
                     whole,
                     workloads,
+                    outside,
                     edges,
                     counts,
                     visits,
@@ -181,6 +185,7 @@ pub fn step(
                 sectors,
                 whole,
                 workloads,
+                outside,
                 edges,
                 counts,
                 visits,
@@ -211,6 +216,7 @@ pub fn step(
                 sectors,
                 whole,
                 workloads,
+                outside,
                 edges,
                 counts,
                 visits,
@@ -247,6 +253,7 @@ pub fn begin(
     sectors: u64,
     whole: u64,
     workloads: &[u64],
+    outside: &[u64],
     edges: &[u64],
     counts: &[u64],
     visits: &[u64],
@@ -261,7 +268,7 @@ pub fn begin(
     queue: &mut [u64],
 ) -> Standing
     ghost { Plan }
-    requires { λ P. ⌜ planOf (length (now workloads)) sectors (now workloads) (now edges) (now counts) (now visits) (now constraints) ≡ P ⌝ }
+    requires { λ P. ⌜ planOf (length (now workloads)) sectors (now workloads) (now outside) (now edges) (now counts) (now visits) (now constraints) ≡ P ⌝ }
     requires { λ P. ⌜ Setting P whole (now start) (now near) (now areas) (now queue) ⌝ }
     requires { λ P. ⌜ Opening P (now colouring) (now work) (now gauges) ⌝ }
     requires { λ P. ⌜ Priced P (now timed) (now counts) (now visits) ⌝ }
@@ -270,6 +277,7 @@ pub fn begin(
     memory::lay_out(
         sectors,
         workloads,
+        outside,
         edges,
         counts,
         visits,
@@ -283,7 +291,7 @@ pub fn begin(
     let regions = workloads.len();
     let counts_end = regions + sectors as usize;
     let loads_end = counts_end + sectors as usize;
-    let border = judge::tallies::border_of(edges, colouring);
+    let border = judge::tallies::border_of(outside, edges, colouring);
     let dwell = flights::pricing::price_all(timed, counts, visits, colouring);
     let figures = judge::measures::figures_of(
         sectors,

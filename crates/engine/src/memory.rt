@@ -75,6 +75,7 @@ pub fn differing(before: &[u64], after: &[u64]) -> u64
 pub fn lay_out(
     sectors: u64,
     workloads: &[u64],
+    outside: &[u64],
     edges: &[u64],
     counts: &[u64],
     visits: &[u64],
@@ -86,7 +87,7 @@ pub fn lay_out(
     queue: &mut [u64],
 )
     ghost { Plan }
-    requires { λ P. ⌜ planOf (length (now workloads)) sectors (now workloads) (now edges) (now counts) (now visits) (now constraints) ≡ P ⌝ }
+    requires { λ P. ⌜ planOf (length (now workloads)) sectors (now workloads) (now outside) (now edges) (now counts) (now visits) (now constraints) ≡ P ⌝ }
     requires { λ P. ⌜ Blank P (now start) (now near) (now colouring) (now work) (now queue) ⌝ }
     ensures { λ P _. ⌜ now (colouring .exit) ≡ now (colouring .entry) ⌝ }
     ensures { λ P _. ⌜ now (work .exit) ≡ memory P (now (colouring .entry)) ++ drop (memoryLength P) (now (work .entry)) ⌝ }

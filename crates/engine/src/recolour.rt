@@ -21,6 +21,7 @@ pub fn probe(
     sectors: u64,
     whole: u64,
     workloads: &[u64],
+    outside: &[u64],
     edges: &[u64],
     counts: &[u64],
     visits: &[u64],
@@ -41,7 +42,7 @@ pub fn probe(
     sector: u64,
 ) -> u64
     ghost { Plan }
-    requires { λ P. ⌜ planOf (length (now workloads)) sectors (now workloads) (now edges) (now counts) (now visits) (now constraints) ≡ P ⌝ }
+    requires { λ P. ⌜ planOf (length (now workloads)) sectors (now workloads) (now outside) (now edges) (now counts) (now visits) (now constraints) ≡ P ⌝ }
     requires { λ P. ⌜ Recolouring P whole (now start) (now near) (now areas) (now colouring) (now work) (now gauges) (now queue) standing region sector ⌝ }
     requires { λ P. ⌜ Flown P (now timed) (now counts) (now visits) (now visited) (now flights) (now firsts) ⌝ }
     ensures { λ P r. ⌜ r ≡ total P (recolour (now (colouring .entry)) region sector) ⌝ }
@@ -54,6 +55,7 @@ pub fn probe(
     let change = change_at(
         sectors,
         workloads,
+        outside,
         edges,
         counts,
         visits,
@@ -80,6 +82,7 @@ pub fn make(
     sectors: u64,
     whole: u64,
     workloads: &[u64],
+    outside: &[u64],
     edges: &[u64],
     counts: &[u64],
     visits: &[u64],
@@ -100,7 +103,7 @@ pub fn make(
     sector: u64,
 ) -> Made
     ghost { Plan }
-    requires { λ P. ⌜ planOf (length (now workloads)) sectors (now workloads) (now edges) (now counts) (now visits) (now constraints) ≡ P ⌝ }
+    requires { λ P. ⌜ planOf (length (now workloads)) sectors (now workloads) (now outside) (now edges) (now counts) (now visits) (now constraints) ≡ P ⌝ }
     requires { λ P. ⌜ Recolouring P whole (now start) (now near) (now areas) (now colouring) (now work) (now gauges) (now queue) standing region sector ⌝ }
     requires { λ P. ⌜ Flown P (now timed) (now counts) (now visits) (now visited) (now flights) (now firsts) ⌝ }
     ensures { λ P r. ⌜ Remade P (now (colouring .entry)) (now (work .entry)) (recolour (now (colouring .entry)) region sector) (now (colouring .exit)) (now (work .exit)) (now (gauges .exit)) r ⌝ }
@@ -117,6 +120,7 @@ pub fn make(
     let turned = turn(
         sectors,
         workloads,
+        outside,
         edges,
         counts,
         visits,
@@ -139,6 +143,7 @@ pub fn make(
         sectors,
         whole,
         workloads,
+        outside,
         edges,
         counts,
         visits,

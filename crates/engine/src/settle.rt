@@ -17,6 +17,7 @@ pub fn settle(
     sectors: u64,
     whole: u64,
     workloads: &[u64],
+    outside: &[u64],
     edges: &[u64],
     counts: &[u64],
     visits: &[u64],
@@ -30,7 +31,7 @@ pub fn settle(
     change: Change,
 ) -> Standing
     ghost { Plan }
-    requires { λ P. ⌜ planOf (length (now workloads)) sectors (now workloads) (now edges) (now counts) (now visits) (now constraints) ≡ P ⌝ }
+    requires { λ P. ⌜ planOf (length (now workloads)) sectors (now workloads) (now outside) (now edges) (now counts) (now visits) (now constraints) ≡ P ⌝ }
     requires { λ P. ⌜ Settling P whole (now colouring) (now work) (now gauges) standing own sector change ⌝ }
     ensures { λ P r. ⌜ Left P (now (work .entry)) (now (colouring .entry)) (now (colouring .entry)) (now (work .exit)) (now (gauges .exit)) ⌝ }
     ensures { λ P r. ⌜ r ≡ standingOf P (now (colouring .entry)) ⌝ }

@@ -92,6 +92,7 @@ fn change_of(before: Sides, workload: u64, look: Look, dwell: Swing) -> Change
 pub fn change_at(
     sectors: u64,
     workloads: &[u64],
+    outside: &[u64],
     edges: &[u64],
     counts: &[u64],
     visits: &[u64],
@@ -110,7 +111,7 @@ pub fn change_at(
     sector: u64,
 ) -> Change
     ghost { Plan }
-    requires { λ P. ⌜ planOf (length (now workloads)) sectors (now workloads) (now edges) (now counts) (now visits) (now constraints) ≡ P ⌝ }
+    requires { λ P. ⌜ planOf (length (now workloads)) sectors (now workloads) (now outside) (now edges) (now counts) (now visits) (now constraints) ≡ P ⌝ }
     requires { λ P. ⌜ Turning P (now start) (now near) (now areas) (now colouring) (now queue) region sector ⌝ }
     requires { λ P. ⌜ Kept P (now colouring) (now work) ⌝ }
     requires { λ P. ⌜ Flown P (now timed) (now counts) (now visits) (now visited) (now flights) (now firsts) ⌝ }
@@ -150,6 +151,7 @@ pub fn change_at(
 pub fn change_anew(
     sectors: u64,
     workloads: &[u64],
+    outside: &[u64],
     edges: &[u64],
     counts: &[u64],
     visits: &[u64],
@@ -168,7 +170,7 @@ pub fn change_anew(
     sector: u64,
 ) -> Change
     ghost { Plan }
-    requires { λ P. ⌜ planOf (length (now workloads)) sectors (now workloads) (now edges) (now counts) (now visits) (now constraints) ≡ P ⌝ }
+    requires { λ P. ⌜ planOf (length (now workloads)) sectors (now workloads) (now outside) (now edges) (now counts) (now visits) (now constraints) ≡ P ⌝ }
     requires { λ P. ⌜ Turning P (now start) (now near) (now areas) (now colouring) (now queue) region sector ⌝ }
     requires { λ P. ⌜ before ≡ sidesOf P (now colouring) (at (now colouring) region) sector ⌝ }
     requires { λ P. ⌜ Flown P (now timed) (now counts) (now visits) (now visited) (now flights) (now firsts) ⌝ }
@@ -202,6 +204,7 @@ pub struct Turned {
 pub fn turn(
     sectors: u64,
     workloads: &[u64],
+    outside: &[u64],
     edges: &[u64],
     counts: &[u64],
     visits: &[u64],
@@ -221,7 +224,7 @@ pub fn turn(
     sector: u64,
 ) -> Turned
     ghost { Plan }
-    requires { λ P. ⌜ planOf (length (now workloads)) sectors (now workloads) (now edges) (now counts) (now visits) (now constraints) ≡ P ⌝ }
+    requires { λ P. ⌜ planOf (length (now workloads)) sectors (now workloads) (now outside) (now edges) (now counts) (now visits) (now constraints) ≡ P ⌝ }
     requires { λ P. ⌜ Turning P (now start) (now near) (now areas) (now colouring) (now queue) region sector ⌝ }
     requires { λ P. ⌜ before ≡ sidesOf P (now colouring) (at (now colouring) region) sector ⌝ }
     requires { λ P. ⌜ now labels ≡ labelsOf (P .edges) (now colouring) ⌝ }

@@ -12,8 +12,8 @@ use Rattle.lists.specs.Sums.{from, listOf, sum, Every}
 use Rattle.lists.specs.SumLaws.{sum-ext, sum-map, every-turn, every-from}
 use Rattle.lists.specs.ListLaws.{map-ext, getD-listOf}
 use Rattle.lists.specs.Places.{sum-at}
-use Rattle.meaning.specs.Plan.{Constraint, Plan, Coloured, edgesOf, constraintAt, constraintsOf}
-use Rattle.meaning.specs.Kinds.{whole, crosses, areaOf, border, counts, loads, deviation, connected, bounded, byKind, violation, holds, total}
+use Rattle.meaning.specs.Plan.{Constraint, Plan, Coloured, constraintAt, constraintsOf}
+use Rattle.meaning.specs.Kinds.{whole, crosses, areaOf, outsideArea, border, counts, loads, deviation, connected, bounded, byKind, violation, holds, total}
 use Rattle.meaning.specs.Components.{ncc-sum}
 use Rattle.meaning.specs.Moves.{verdict, verdictsOf, verdicts}
 use Rattle.meaning.specs.Prices.{dwellTotal}
@@ -42,10 +42,10 @@ module _ (P : Plan) where
   whole-by l = sum-at (P .R) (P .workloads) (λ w. w) l
 
   module _ (col : List ℕ) where
-    -- the edges of a flat list make the border
-    pub border-by : (edges : List ℕ) → P .edges ≡ edgesOf edges → areaOf (edgesOf edges) (crosses col) ≡ border P col
-    unfolding border
-    border-by edges e = rw e
+    -- the edges and the faces to the outside make the border
+    pub border-by : length (P .outside) ≡ P .R → areaOf (P .edges) (crosses col) + sum (P .outside) (λ a. a) ≡ border P col
+    unfolding border outsideArea
+    border-by l = ap (λ n. areaOf (P .edges) (crosses col) + n) (sum-at (P .R) (P .outside) (λ a. a) l)
 
     -- the tallies make the figures
     pub figures-by : Coloured P col → figuresBy (P .S) (whole P) (counts P col) (loads P col) (border P col) (dwellTotal P col) ≡ figuresOf P col

@@ -1,4 +1,4 @@
--- What the judging functions take for granted: that the numbers are as small as the limits of document 01 make them.
+-- What the judging functions take for granted: that the numbers are as small as the limits of the documents make them.
 -- Assumes nothing.
 use Prim.Native.Nat.{ℕ, _+_, _-_, _*_, _/_, _≤_, _<_, _^_}
 use native.Mathlib.Nat.{mul-le-mul}
@@ -19,7 +19,7 @@ use Rattle.meaning.specs.Plan.{Edge, Constraint, Plan, Limits, ConstraintLimits
 use Rattle.meaning.specs.Joined.{labels, leads}
 use Rattle.meaning.specs.Kinds.{ncc, nccAll, load, whole, areaOf, counts, loads, bounded, byKind}
 use Rattle.meaning.specs.Paths.{Ends, limits-ends}
-use Rattle.meaning.specs.Bounds.{mostDwelling, count-bound, ncc-bound, load-bound, whole-bound, border-bound, deviation-bound, dwelling-bound}
+use Rattle.meaning.specs.Bounds.{mostBorder, mostDwelling, count-bound, ncc-bound, load-bound, whole-bound, border-bound, deviation-bound, dwelling-bound}
 use Rattle.meaning.specs.Prices.{mostDwellTotal}
 use Rattle.meaning.specs.PriceLaws.{dwell-total-bound}
 use Rattle.judge.specs.declared.Figures.{Figures}
@@ -58,7 +58,7 @@ pub record SmallTallies (S W : ℕ) (counts loads : List ℕ) : Type 0 where
 pub record SmallFigures (F : Figures) : Type 0 where
   pub components : F .components ≤ mostRegions
   pub excess : F .excess ≤ mostSectors * mostRegions
-  pub border : F .border ≤ mostEdges * mostArea
+  pub border : F .border ≤ mostBorder
   pub deviation : F .deviation ≤ mostSectors * mostGap
   pub dwell : F .dwell ≤ mostDwellTotal
 
@@ -87,6 +87,10 @@ module _ (P : Plan) (l : Limits P) where
   -- the sum of its workloads
   pub whole-small : sum (P .workloads) (λ w. w) ≤ mostLoad
   whole-small = few-bound mostRegions mostWorkload (P .workloads) (λ w. w) (omega (arith, l .workloads, l .R .high)) (l .workload)
+
+  -- its faces to the outside
+  pub outside-small : Few mostRegions mostArea (P .outside)
+  outside-small = record { few = omega (arith, l .outside, l .R .high); each = l .outsideArea }
 
   -- its edges
   pub edges-small : SmallEdges (P .R) (P .edges)

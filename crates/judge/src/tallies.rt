@@ -3,8 +3,9 @@ ghost use mathlib.Core.Path.{_≡_};
 ghost use mathlib.Core.Bool.{cond};
 ghost use Prim.Native.Nat.{_+_, _/_, _<_, _≤_, _^_};
 ghost use lib.ListN.{length};
-ghost use Rattle.lists.specs.Sums.{In, at, bit, Every};
-ghost use Rattle.meaning.specs.Plan.{mostWorkload, edgeLength, edgeAt, edgesOf};
+ghost use Rattle.lists.specs.Sums.{In, at, bit, sum, Every};
+ghost use Rattle.lists.specs.Few.{Few};
+ghost use Rattle.meaning.specs.Plan.{mostRegions, mostWorkload, mostArea, edgeLength, edgeAt, edgesOf};
 ghost use Rattle.meaning.specs.Joined.{leads};
 ghost use Rattle.meaning.specs.Kinds.{areaOf, crosses};
 ghost use Rattle.judge.specs.Figures.{tally};
@@ -12,6 +13,7 @@ ghost use Rattle.judge.specs.Tallies.{added, Tallying};
 ghost use Rattle.judge.specs.Small.{SmallEdges};
 use crate::bit_of;
 use lists::clear;
+use lists::sum_of;
 use terms::limits::EDGE_LENGTH;
 
 // Adds x to the sum of a sector.
@@ -76,17 +78,19 @@ fn border_at(edges: &[u64], colouring: &[u64], k: usize) -> u64
     }
 }
 
-// The summed area of the edges whose ends differ in sector.
-pub fn border_of(edges: &[u64], colouring: &[u64]) -> u64
+// The summed area of the edges whose ends differ in sector, and of all faces to the outside.
+pub fn border_of(outside: &[u64], edges: &[u64], colouring: &[u64]) -> u64
+    requires { ⌜ Few mostRegions mostArea (now outside) ⌝ }
     requires { ⌜ SmallEdges (length (now colouring)) (edgesOf (now edges)) ⌝ }
-    ensures { λ r. ⌜ r ≡ areaOf (edgesOf (now (edges .entry))) (crosses (now (colouring .entry))) ⌝ }
+    ensures { λ r. ⌜ r ≡ areaOf (edgesOf (now (edges .entry))) (crosses (now (colouring .entry))) + sum (now (outside .entry)) (λ a. a) ⌝ }
 {
     let n = edges.len() / EDGE_LENGTH;
+    let outside_area = sum_of(outside);
     let mut area = 0;
     let mut k = 0;
     while k < n {
         area += border_at(edges, colouring, k);
         k += 1;
     }
-    area
+    area + outside_area
 }

@@ -7,7 +7,7 @@ use mathlib.Core.List.{List, []}
 use lib.Dec.{eqb, leb}
 use lib.ListN.{length, getD}
 use Rattle.terms.specs.Plan.{within}
-use Rattle.meaning.specs.Plan.{Plan, planOf, constraintLength}
+use Rattle.meaning.specs.Plan.{Plan, planOf, constraintLength, noOutside}
 use Rattle.meaning.specs.Kinds.{total}
 use Rattle.meaning.specs.Moves.{verdictLength, verdicts}
 use Rattle.refusals.specs.declared.Refusal.{Refusal}
@@ -16,9 +16,9 @@ use Rattle.report.specs.Text.{verdictText, refusedText, mostText}
 use Rattle.sheet.specs.Form.{Contents, contentsIn}
 use Rattle.sheet.specs.Reading.{sheetRefusal, over}
 
--- the plan of some contents, which has no flights
+-- the plan of some contents, which has no outside areas and no flights
 abbrev pub planHeld : Contents → Plan
-planHeld k = planOf (k .R) (k .S) (k .workloads) (k .edges) [] [] (k .constraints)
+planHeld k = planOf (k .R) (k .S) (k .workloads) (noOutside (k .R)) (k .edges) [] [] (k .constraints)
 
 -- the verdicts on them
 abbrev pub verdictsHeld : Contents → List ℕ

@@ -5,7 +5,7 @@ use mathlib.Core.List.{[], _∷_}
 use Rattle.terms.specs.Distance.{stands, distance}
 use Rattle.meaning.specs.Plan.{edgesOf, constraintsOf}
 use Rattle.meaning.specs.Joined.{takeIn, takeAll, labels}
-use Rattle.meaning.specs.Kinds.{ncc, nccAll, load, whole, border, counts, loads, deviation, connected, bounded, byKind, total}
+use Rattle.meaning.specs.Kinds.{ncc, nccAll, load, whole, outsideArea, border, counts, loads, deviation, connected, bounded, byKind, total}
 use Rattle.meaning.specs.Kinds as kinds
 use Rattle.meaning.specs.Moves.{verdict, verdictsOf}
 use Rattle.refusals.specs.Table.{none, refusal, planTable, planRefusal, offFrom, edgeRight, constraintRight}
@@ -29,12 +29,12 @@ not-refused = refl
 
 -- whether its last constraint holds, the violation, and that of the places on both sides of the list
 last-verdict : holds (sheetOf sheetA) 4 ∷ violation (sheetOf sheetA) 4 ∷ violation (sheetOf sheetA) 0 ∷ violation (sheetOf sheetA) 5 ∷ [] ≡ 0 ∷ 5 ∷ 0 ∷ 0 ∷ []
-unfolding sheetA edgesOf constraintsOf stands distance takeIn takeAll labels ncc nccAll load whole border counts loads deviation connected bounded byKind kinds.violation kinds.holds total verdict verdictsOf verdictAt
+unfolding sheetA edgesOf constraintsOf stands distance takeIn takeAll labels ncc nccAll load whole outsideArea border counts loads deviation connected bounded byKind kinds.violation kinds.holds total verdict verdictsOf verdictAt
 last-verdict = rw (judgement-written sheetA not-refused)
 
 -- document 01's five lines
 five-lines : textOf (sheetOf sheetA) ≡ ascii "1 1 1 0\n2 2 1 0\n3 3 1 0\n4 4 0 5\ntotal 15\n"
-unfolding sheetA edgesOf constraintsOf stands distance takeIn takeAll labels ncc nccAll load whole border counts loads deviation connected bounded byKind kinds.violation kinds.holds total verdict verdictsOf decimal spelled number line lines totalLine verdictText textOf
+unfolding sheetA edgesOf constraintsOf stands distance takeIn takeAll labels ncc nccAll load whole outsideArea border counts loads deviation connected bounded byKind kinds.violation kinds.holds total verdict verdictsOf decimal spelled number line lines totalLine verdictText textOf
 five-lines = rw (judgement-written sheetA not-refused)
 
 -- no bytes are no sheet

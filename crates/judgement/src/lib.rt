@@ -49,12 +49,14 @@ fn judge_contents(
     requires { λ k. ⌜ verdictLength * mostConstraints ≤ length (now verdicts) ⌝ }
     ensures { λ k r. ⌜ (r ≡ totalHeld k) × (now (verdicts .exit) ≡ over (verdictsHeld k) (now (verdicts .entry))) ⌝ }
 {
+    let outside = [0u64; MOST_REGIONS as usize];
     let mut rows = [0i64; 0];
     let mut work = [0u64; MOST_REGIONS as usize + 2 * MOST_SECTORS as usize + 1];
     let answer = call::judge(
         regions,
         sectors,
         workloads,
+        &outside[..regions as usize],
         edges,
         &[],
         &[],

@@ -32,7 +32,8 @@ module _ {P : Plan} (l : Limits P) where
   -- v's edges to sector d leave the border
   pub border-put : {c0 c1 : List ℕ} {v d : ℕ} → Put (P .R) c0 c1 v d → border P c1 + areaTo (P .edges) c0 v d ≡ border P c0
   unfolding border areaTo leadsTo
-  border-put {c0} {c1} {v} {d} p = sym (sum-add (P .edges) _ _) ∙ sum-ext (P .edges) _ _ (every-turn one (P .edges) (l .edge))
+  border-put {c0} {c1} {v} {d} p =
+      omega (arith, sym (sum-add (P .edges) _ _) ∙ sum-ext (P .edges) _ _ (every-turn one (P .edges) (l .edge)))
     where
       Part : Edge → Bool → Bool → Type 0
       Part e a b =

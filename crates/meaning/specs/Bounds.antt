@@ -1,6 +1,6 @@
--- How large the numbers of a colouring get within the limits of document 01, whatever the colouring's length and sectors.
+-- How large the numbers of a colouring get within the limits of the documents, whatever the colouring's length and sectors.
 -- Assumes nothing.
-use Prim.Native.Nat.{ℕ, _-_, _*_, _≤_}
+use Prim.Native.Nat.{ℕ, _+_, _-_, _*_, _≤_}
 use native.Mathlib.Nat.{mul-le-mul, le-trans}
 use native.Mathlib.Omega.{arith}
 use mathlib.Core.List.{List}
@@ -15,7 +15,7 @@ use Rattle.meaning.specs.Plan.{Edge, Visit, Constraint, Plan, regions, s
 use Rattle.meaning.specs.Joined.{labels, leads}
 use Rattle.meaning.specs.Stretches.{stretches, dwellOf, visits}
 use Rattle.meaning.specs.StretchLaws.{stretches-few, stretches-sum}
-use Rattle.meaning.specs.Kinds.{ncc, nccAll, load, whole, crosses, border, offBalance, deviation, connected, bounded, overStretches, offDwell, dwelling, byKind, violation, total, leadsTo, borderOf, dwellingOf, partOf, regionViolation}
+use Rattle.meaning.specs.Kinds.{ncc, nccAll, load, whole, crosses, outsideArea, border, offBalance, deviation, connected, bounded, overStretches, offDwell, dwelling, byKind, violation, total, leadsTo, borderOf, dwellingOf, partOf, regionViolation}
 use Rattle.meaning.specs.Components.{connected-all, deviation-all, bounded-all}
 
 -- what is due to a kind is at most B where what is due to each of the five is
@@ -28,6 +28,10 @@ by-kind-bound kind ha hb hc hd he =
 -- the most that a stretch may be from a limit: 32 * 86,400 + 10 ^ 11 + 1
 abbrev pub mostOff : ℕ
 mostOff = 100_002_764_801
+
+-- the most that a border may be
+abbrev pub mostBorder : ℕ
+mostBorder = (mostEdges + mostRegions) * mostArea
 
 -- the most that a total may be
 abbrev pub mostTotal : ℕ
@@ -93,6 +97,15 @@ module _ (P : Plan) (l : Limits P) where
   unfolding whole
   whole-bound = regions-bound mostWorkload _ workload-bound
 
+  -- a face to the outside is at most the limit; past the last region it reads 0
+  outside-bound : (u : ℕ) → at (P .outside) u ≤ mostArea
+  outside-bound u = getD-bound (P .outside) (u - 1) (l .outsideArea)
+
+  -- all faces to the outside are at most 512 * 10 ^ 6
+  outside-area-bound : outsideArea P ≤ mostRegions * mostArea
+  unfolding outsideArea
+  outside-area-bound = regions-bound mostArea _ outside-bound
+
   module _ (col : List ℕ) where
     -- a sector has at most 512 components
     pub ncc-bound : (c : ℕ) → ncc P col c ≤ 512
@@ -104,10 +117,15 @@ module _ (P : Plan) (l : Limits P) where
     unfolding load
     load-bound c = regions-bound mostWorkload _ (λ u. cond-le (eqb (at col u) c) (workload-bound u) (omega arith))
 
-    -- the border is at most 2048 * 10 ^ 6
-    pub border-bound : border P col ≤ 2048000000
+    -- the border is at most (2048 + 512) * 10 ^ 6
+    pub border-bound : border P col ≤ mostBorder
     unfolding border
-    border-bound = edges-bound (crosses col)
+    border-bound = omega (arith, edges-bound (crosses col), outside-area-bound)
+
+    -- and so is that of a region
+    pub border-of-bound : (v : ℕ) → borderOf P col v ≤ mostBorder
+    unfolding borderOf
+    border-of-bound v = omega (arith, edges-bound (leadsTo (λ w. not (eqb (at col w) (at col v))) v), outside-bound v)
 
     -- a sector's workload is at most 64 * 512 * 10 ^ 6 off the balance
     balance-bound : (c : ℕ) → offBalance P (load P col c) ≤ 32768000000
@@ -158,9 +176,9 @@ module _ (P : Plan) (l : Limits P) where
 
       -- what a region has by a constraint is at most as much
       part-bound : (v c : ℕ) → partOf P col v c k ≤ mostDwelling
-      unfolding partOf borderOf
+      unfolding partOf
       part-bound v c =
-          by-kind-bound (k .kind) (omega (arith, ncc-bound c)) (omega (arith, edges-bound (leadsTo (λ w. not (eqb (at col w) (at col v))) v)))
+          by-kind-bound (k .kind) (omega (arith, ncc-bound c)) (omega (arith, border-of-bound v))
           (omega (arith, balance-bound c)) (omega (arith, reach-bound c)) (dwelling-of-bound v)
 
     -- the total is at most 4 * 10 ^ 18

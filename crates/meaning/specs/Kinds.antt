@@ -1,4 +1,4 @@
--- Document 01, "Meaning of the four kinds", and document 02, C-11: the numbers of a colouring, the violation of each kind, the total, and a region's violation.
+-- Document 01, "Meaning of the four kinds", and document 02, C-11 and C-12: the numbers of a colouring, the violation of each kind, the total, and a region's violation.
 -- A difference `a - b` is 0 where b is larger, so that document 01's max(a - b, 0) is `a - b`.
 -- Assumes nothing.
 use Prim.Native.Nat.{ℕ, _+_, _-_, _*_}
@@ -35,9 +35,13 @@ crosses col e = not (eqb (at col (e .a)) (at col (e .b)))
 abbrev pub areaOf : List Edge → (Edge → Bool) → ℕ
 areaOf edges p = sum edges (λ e. cond (p e) (e .area) 0)
 
--- T: the summed area of the edges whose two ends differ in sector
+-- the summed area of all faces to the outside
+unfoldable pub outsideArea : Plan → ℕ
+outsideArea P = sum (regions P) (at (P .outside))
+
+-- T: the summed area of the edges whose two ends differ in sector, and of all faces to the outside
 unfoldable pub border : Plan → List ℕ → ℕ
-border P col = areaOf (P .edges) (crosses col)
+border P col = areaOf (P .edges) (crosses col) + outsideArea P
 
 -- NCC(1), .., NCC(S)
 unfoldable pub counts : Plan → List ℕ → List ℕ
@@ -101,9 +105,9 @@ total P col = sum (P .constraints) (λ k. k .weight * violation P col k)
 unfoldable pub leadsTo : (ℕ → Bool) → ℕ → Edge → Bool
 leadsTo test v e = (eqb (e .a) v && test (e .b)) || (eqb (e .b) v && test (e .a))
 
--- the area of v's edges that lead to another sector
+-- the area of v's edges that lead to another sector, and of its face to the outside
 unfoldable pub borderOf : Plan → List ℕ → ℕ → ℕ
-borderOf P col v = areaOf (P .edges) (leadsTo (λ w. not (eqb (at col w) (at col v))) v)
+borderOf P col v = areaOf (P .edges) (leadsTo (λ w. not (eqb (at col w) (at col v))) v) + at (P .outside) v
 
 -- how far the stretches that visit v are from the limit, each counted once
 unfoldable pub dwellingOf : Plan → List ℕ → ℕ → Constraint → ℕ

@@ -8,6 +8,7 @@ pub mod Paths
 pub mod Labels
 pub mod Components
 pub mod Holds
+pub mod Outer
 pub mod Bounds
 pub mod StretchLaws
 pub mod Stretched

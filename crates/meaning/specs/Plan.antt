@@ -1,9 +1,9 @@
--- Document 01, "The plan", and document 02, C-11: a plan and its parts, from the flat lists of numbers.
+-- Document 01, "The plan", and document 02, C-11 and C-12: a plan and its parts, from the flat lists of numbers.
 -- Assumes nothing.
 use Prim.Native.Nat.{ℕ, _+_, _*_, _/_, _≤_, _<_}
 use mathlib.Core.Path.{_≡_}
 use mathlib.Core.List.{List, [], _∷_}
-use lib.ListN.{length, getD, take, drop}
+use lib.ListN.{length, getD, take, drop, replicate}
 use Rattle.lists.specs.Sums.{In, at, upTo, listOf, Every}
 
 -- two regions that share a face, and the area of the face
@@ -24,11 +24,12 @@ pub record Constraint : Type 0 where
   pub limit : ℕ
   pub weight : ℕ
 
--- a plan but for its colouring: how many regions and sectors there are, each region's workload, the edges, the visits of each flight in order, and the constraints
+-- a plan but for its colouring: how many regions and sectors there are, each region's workload and the area of its face to the outside, the edges, the visits of each flight in order, and the constraints
 pub record Plan : Type 0 where
   pub R : ℕ
   pub S : ℕ
   pub workloads : List ℕ
+  pub outside : List ℕ
   pub edges : List Edge
   pub flights : List (List Visit)
   pub constraints : List Constraint
@@ -79,16 +80,21 @@ unfoldable pub constraintsOf : List ℕ → List Constraint
 constraintsOf xs = listOf (length xs / constraintLength) (constraintAt xs)
 
 -- the plan of the flat lists
-abbrev pub planOf : ℕ → ℕ → List ℕ → List ℕ → List ℕ → List ℕ → List ℕ → Plan
-planOf R S workloads edges counts visits constraints =
+abbrev pub planOf : ℕ → ℕ → List ℕ → List ℕ → List ℕ → List ℕ → List ℕ → List ℕ → Plan
+planOf R S workloads outside edges counts visits constraints =
     record {
       R = R;
       S = S;
       workloads = workloads;
+      outside = outside;
       edges = edgesOf edges;
       flights = flightsOf counts visits;
       constraints = constraintsOf constraints;
     }
+
+-- the outside areas of a plan that comes without them
+abbrev pub noOutside : ℕ → List ℕ
+noOutside R = replicate R 0
 
 -- regions are numbered 1..R
 abbrev pub regions : Plan → List ℕ
@@ -112,6 +118,7 @@ mostWorkload = 1_000_000
 abbrev pub mostEdges : ℕ
 mostEdges = 2_048
 
+-- of an edge, or of a face to the outside
 abbrev pub mostArea : ℕ
 mostArea = 1_000_000
 
@@ -168,6 +175,8 @@ pub record Limits (P : Plan) : Type 0 where
   pub S : In mostSectors (P .S)
   pub workloads : length (P .workloads) ≡ P .R
   pub workload : Every (λ w. w ≤ mostWorkload) (P .workloads)
+  pub outside : length (P .outside) ≡ P .R
+  pub outsideArea : Every (λ a. a ≤ mostArea) (P .outside)
   pub edges : length (P .edges) ≤ mostEdges
   pub edge : Every (EdgeLimits (P .R)) (P .edges)
   pub flights : length (P .flights) ≤ mostFlights

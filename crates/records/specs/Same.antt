@@ -6,7 +6,7 @@ use mathlib.Core.List.{List, []}
 use borrow.Author.Tests.{ne-eqb}
 use lib.IntN.{ℤ}
 use lib.ListN.{length}
-use Rattle.meaning.specs.Plan.{mostKind}
+use Rattle.meaning.specs.Plan.{mostKind, noOutside}
 use Rattle.refusals.specs.Table.{callTable, callRefusal, planRefusal}
 use Rattle.call.specs.Promise as call
 use Rattle.sheet.specs.Reading.{sheetKinds}
@@ -19,19 +19,19 @@ use Rattle.records.specs.CopiedLaws.{front-same}
 
 -- ---- the call
 
-module _ (R S : ℕ) (workloads edges counts visits colouring moves : List ℕ) (rows : List ℤ) (verdicts work : List ℕ) where
+module _ (R S : ℕ) (workloads outside edges counts visits colouring moves : List ℕ) (rows : List ℤ) (verdicts work : List ℕ) where
   -- what the call is given, with these constraint numbers
   abbrev judging : List ℕ → call.Input
-  judging numbers = call.input R S workloads edges counts visits numbers colouring moves rows verdicts work
+  judging numbers = call.input R S workloads outside edges counts visits numbers colouring moves rows verdicts work
 
   -- on a list of too many constraints the call has the same outcome whatever their numbers are
   pub outcome-alike : (xs ys : List ℕ) → TooMany xs → TooMany ys → call.outcome (judging xs) ≡ call.outcome (judging ys)
   unfolding callTable callRefusal call.outcome call.refusedBy
   outcome-alike xs ys h k =
       rw (
-        table-alike mostKind R S workloads edges counts visits colouring xs ys _ h k,
-        table-alike mostKind R S workloads edges counts visits colouring ys ys _ k k,
-        ne-eqb (planRefusal mostKind R S workloads edges counts visits ys colouring .code) 0 (plan-refused mostKind R S workloads edges counts visits colouring ys k),
+        table-alike mostKind R S workloads outside edges counts visits colouring xs ys _ h k,
+        table-alike mostKind R S workloads outside edges counts visits colouring ys ys _ k k,
+        ne-eqb (planRefusal mostKind R S workloads outside edges counts visits ys colouring .code) 0 (plan-refused mostKind R S workloads outside edges counts visits colouring ys k),
       )
 
   -- where the call keeps its promise on the front of an array of records, it keeps it on their numbers
@@ -69,9 +69,9 @@ module _ (R S : ℕ) (workloads edges colouring lent : List ℕ) where
   unfolding writing.writeRefusal writing.outcome
   written-alike xs ys h k =
       rw (
-        table-alike sheetKinds R S workloads edges [] [] colouring xs ys _ h k,
-        table-alike sheetKinds R S workloads edges [] [] colouring ys ys _ k k,
-        ne-eqb (planRefusal sheetKinds R S workloads edges [] [] ys colouring .code) 0 (plan-refused sheetKinds R S workloads edges [] [] colouring ys k),
+        table-alike sheetKinds R S workloads (noOutside R) edges [] [] colouring xs ys _ h k,
+        table-alike sheetKinds R S workloads (noOutside R) edges [] [] colouring ys ys _ k k,
+        ne-eqb (planRefusal sheetKinds R S workloads (noOutside R) edges [] [] ys colouring .code) 0 (plan-refused sheetKinds R S workloads (noOutside R) edges [] [] colouring ys k),
       )
 
   -- where writing keeps its promise on the front of an array of records, it keeps it on their numbers

@@ -28,6 +28,7 @@ pub fn judge_front(
     regions: u64,
     sectors: u64,
     workloads: &[u64],
+    outside: &[u64],
     edges: &[u64],
     counts: &[u64],
     visits: &[u64],
@@ -37,13 +38,14 @@ pub fn judge_front(
     verdicts: &mut [u64],
     work: &mut [u64],
 ) -> Answer
-    ensures { λ r. ⌜ call.Promise (call.input regions sectors (now (workloads .entry)) (now (edges .entry)) (now (counts .entry)) (now (visits .entry)) (front count numbers) (now (colouring .entry)) (now (moves .entry)) (now (rows .entry)) (now (verdicts .entry)) (now (work .entry))) (call.left r (now (colouring .exit)) (now (rows .exit)) (now (verdicts .exit)) (now (work .exit))) ⌝ }
+    ensures { λ r. ⌜ call.Promise (call.input regions sectors (now (workloads .entry)) (now (outside .entry)) (now (edges .entry)) (now (counts .entry)) (now (visits .entry)) (front count numbers) (now (colouring .entry)) (now (moves .entry)) (now (rows .entry)) (now (verdicts .entry)) (now (work .entry))) (call.left r (now (colouring .exit)) (now (rows .exit)) (now (verdicts .exit)) (now (work .exit))) ⌝ }
 {
     let copied = copied_of(count);
     call::judge(
         regions,
         sectors,
         workloads,
+        outside,
         edges,
         counts,
         visits,

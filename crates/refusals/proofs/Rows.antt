@@ -14,11 +14,6 @@ module _ (f : Refusal) (r : Row) where
   unfolding after
   after-refused h = rw (ne-eqb (f .code) 0 h)
 
-  -- nothing is refused so far, nor by this row
-  pub after-passed : f .code ≡ 0 → r .given ≡ false → f ≡ after f r
-  unfolding after
-  after-passed h e = rw (eq-eqb (f .code) 0 h, e)
-
   -- nothing is refused so far, and this row refuses
   pub after-given : f .code ≡ 0 → r .given ≡ true → refused (r .code) (r .place) ≡ after f r
   unfolding after

@@ -42,16 +42,16 @@ module _ {few most : ℕ} (more : few ≤ most) where
       let n = length constraints / constraintLength in
       each-passed (constraintRight most constraints) n (λ k h. constraint-more constraints k (passed-each (constraintRight few constraints) n e k h))
 
-  module _ (R S : ℕ) (workloads edges counts visits constraints colouring : List ℕ) where
+  module _ (R S : ℕ) (workloads outside edges counts visits constraints colouring : List ℕ) where
     -- the tables differ in one row only
-    rows-more : Passed (planTable few R S workloads edges counts visits constraints colouring) → Passed (planTable most R S workloads edges counts visits constraints colouring)
+    rows-more : Passed (planTable few R S workloads outside edges counts visits constraints colouring) → Passed (planTable most R S workloads outside edges counts visits constraints colouring)
     unfolding planTable
-    rows-more (regions, (sectors, (workloads-long, (workload, (edges-whole, (edge, (flights-few, (count, (visits-long, (flight, (constraints-whole, (constraint, on-colouring)))))))))))) = (
+    rows-more (regions, (sectors, (workloads-long, (workload, (outside-long, (outside-area, (edges-whole, (edge, (flights-few, (count, (visits-long, (flight, (constraints-whole, (constraint, on-colouring)))))))))))))) = (
       regions,
-      (sectors, (workloads-long, (workload, (edges-whole, (edge, (flights-few, (count, (visits-long, (flight, (constraints-whole, (each-more constraints constraint, on-colouring))))))))))),
+      (sectors, (workloads-long, (workload, (outside-long, (outside-area, (edges-whole, (edge, (flights-few, (count, (visits-long, (flight, (constraints-whole, (each-more constraints constraint, on-colouring))))))))))))),
     )
 
     -- a plan that is not refused with constraints of few kinds passes the table of more
-    pub passed-more-kinds : planRefusal few R S workloads edges counts visits constraints colouring .code ≡ 0 → Passed (planTable most R S workloads edges counts visits constraints colouring)
+    pub passed-more-kinds : planRefusal few R S workloads outside edges counts visits constraints colouring .code ≡ 0 → Passed (planTable most R S workloads outside edges counts visits constraints colouring)
     unfolding planTable planRefusal
-    passed-more-kinds z = rows-more (passed (planTable few R S workloads edges counts visits constraints colouring) tt z)
+    passed-more-kinds z = rows-more (passed (planTable few R S workloads outside edges counts visits constraints colouring) tt z)

@@ -3,3 +3,4 @@ pub mod Turn
 pub mod Passed
 pub mod Valid
 pub mod FewerKinds
+pub mod Plain

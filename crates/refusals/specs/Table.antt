@@ -1,4 +1,4 @@
--- Document 01, "The call and what it refuses", and document 02, C-11: the refusals in the order in which they are checked.
+-- Document 01, "The call and what it refuses", and document 02, C-11 and C-12: the refusals in the order in which they are checked.
 -- Assumes nothing.
 use Prim.Native.Nat.{ℕ, zero, suc, _+_, _-_, _*_, _/_, _%_}
 use mathlib.Core.Bool.{Bool, true, cond, not, _&&_, _||_}
@@ -51,8 +51,9 @@ refusal (r ∷ rs) = cond (r .given) (refused (r .code) (r .place)) (refusal rs)
 
 -- ---- the items
 
-abbrev pub workloadRight : List ℕ → ℕ → Bool
-workloadRight workloads k = leb (getD workloads k 0) mostWorkload
+-- a workload, or a face to the outside
+abbrev pub atMost : ℕ → List ℕ → ℕ → Bool
+atMost most xs k = leb (getD xs k 0) most
 
 -- strictly increasing by a, then b
 abbrev pub above : Edge → Edge → Bool
@@ -93,13 +94,15 @@ records width low high xs = eqb (length xs % width) 0 && within low (length xs /
 
 -- ---- the table
 
--- codes 1 to 8 and, after 5, code 13, on a plan with constraints of the kinds 1 to `kinds`, and on its colouring
-unfoldable pub planTable : ℕ → ℕ → ℕ → List ℕ → List ℕ → List ℕ → List ℕ → List ℕ → List ℕ → List Row
-planTable kinds R S workloads edges counts visits constraints colouring =
+-- codes 1 to 8 and, after 3 and 5, codes 14 and 13, on a plan with constraints of the kinds 1 to `kinds`, and on its colouring
+unfoldable pub planTable : ℕ → ℕ → ℕ → List ℕ → List ℕ → List ℕ → List ℕ → List ℕ → List ℕ → List ℕ → List Row
+planTable kinds R S workloads outside edges counts visits constraints colouring =
     whole 1 (within 1 R mostRegions)
     ∷ whole 2 (within 1 S mostSectors)
     ∷ whole 3 (eqb (length workloads) R)
-    ∷ each 3 (length workloads) (workloadRight workloads)
+    ∷ each 3 (length workloads) (atMost mostWorkload workloads)
+    ∷ whole 14 (eqb (length outside) R)
+    ∷ each 14 (length outside) (atMost mostArea outside)
     ∷ whole 4 (records edgeLength 0 mostEdges edges)
     ∷ each 5 (length edges / edgeLength) (edgeRight R edges)
     ∷ whole 13 (leb (length counts) mostFlights)
@@ -126,6 +129,7 @@ pub record Given : Type 0 where
   pub R : ℕ
   pub S : ℕ
   pub workloads : List ℕ
+  pub outside : List ℕ
   pub edges : List ℕ
   pub counts : List ℕ
   pub visits : List ℕ
@@ -137,14 +141,14 @@ pub record Given : Type 0 where
   pub work : ℕ
 
 -- the same of a call's parameters, in their order
-abbrev pub given : ℕ → ℕ → List ℕ → List ℕ → List ℕ → List ℕ → List ℕ → List ℕ → List ℕ → ℕ → ℕ → ℕ → Given
-given R S workloads edges counts visits constraints colouring moves rows verdicts work =
-    record { R = R; S = S; workloads = workloads; edges = edges; counts = counts; visits = visits; constraints = constraints; colouring = colouring; moves = moves; rows = rows; verdicts = verdicts; work = work }
+abbrev pub given : ℕ → ℕ → List ℕ → List ℕ → List ℕ → List ℕ → List ℕ → List ℕ → List ℕ → List ℕ → ℕ → ℕ → ℕ → Given
+given R S workloads outside edges counts visits constraints colouring moves rows verdicts work =
+    record { R = R; S = S; workloads = workloads; outside = outside; edges = edges; counts = counts; visits = visits; constraints = constraints; colouring = colouring; moves = moves; rows = rows; verdicts = verdicts; work = work }
 
--- codes 1 to 13
+-- codes 1 to 14
 unfoldable pub callTable : Given → List Row
 callTable g =
-    planTable mostKind (g .R) (g .S) (g .workloads) (g .edges) (g .counts) (g .visits) (g .constraints) (g .colouring)
+    planTable mostKind (g .R) (g .S) (g .workloads) (g .outside) (g .edges) (g .counts) (g .visits) (g .constraints) (g .colouring)
     ++ roomTable (g .R) (g .S) (g .constraints) (g .moves) (g .rows) (g .verdicts) (g .work)
 
 -- what the call answers to bad input
@@ -152,6 +156,6 @@ unfoldable pub callRefusal : Given → Refusal
 callRefusal g = refusal (callTable g)
 
 -- what is refused of a plan with constraints of the kinds 1 to `kinds`, and of its colouring
-unfoldable pub planRefusal : ℕ → ℕ → ℕ → List ℕ → List ℕ → List ℕ → List ℕ → List ℕ → List ℕ → Refusal
-planRefusal kinds R S workloads edges counts visits constraints colouring =
-    refusal (planTable kinds R S workloads edges counts visits constraints colouring)
+unfoldable pub planRefusal : ℕ → ℕ → ℕ → List ℕ → List ℕ → List ℕ → List ℕ → List ℕ → List ℕ → List ℕ → Refusal
+planRefusal kinds R S workloads outside edges counts visits constraints colouring =
+    refusal (planTable kinds R S workloads outside edges counts visits constraints colouring)

@@ -5,6 +5,7 @@ use mathlib.Core.Path.{_≡_, refl, sym, _∙_, ap}
 use mathlib.Core.Bool.{Bool, true, false, cond, not, _&&_}
 use mathlib.Core.List.{List, [], _∷_, _++_}
 use lib.Dec.{eqb, T}
+use lib.ListN.{take, drop}
 use borrow.Author.Tests.{ne-eqb, eqb-false}
 use Rattle.meaning.specs.Plan.{mostKind}
 use Rattle.refusals.specs.declared.Refusal.{Refusal}
@@ -18,6 +19,15 @@ after f r = cond (eqb (f .code) 0) (cond (r .given) (refused (r .code) (r .place
 unfoldable pub inTurn : Refusal → List Row → Refusal
 inTurn f [] = f
 inTurn f (r ∷ rs) = inTurn (after f r) rs
+
+-- a row that is not given leaves what is refused so far
+pub after-passed : (f : Refusal) (r : Row) → r .given ≡ false → f ≡ after f r
+unfolding after
+after-passed f r e = rw e (go (eqb (f .code) 0))
+  where
+    go : (b : Bool) → f ≡ cond b f f
+    go true = refl
+    go false = refl
 
 -- no row has code 0, which refuses nothing
 abbrev pub coded : List Row → Bool
@@ -81,18 +91,31 @@ in-turn-more rows more t u =
 
 -- ---- the two tables
 
+-- of the rows on a plan, those on the numbers of regions and sectors: codes 1 and 2
+abbrev pub onSizes : ℕ → ℕ → List Row
+onSizes R S = take 2 (planTable 0 R S [] [] [] [] [] [] [])
+
+-- those on the lists that have a number for each region: code 3, then 14
+abbrev pub onRegions : ℕ → List ℕ → List ℕ → List Row
+onRegions R workloads outside = take 4 (drop 2 (planTable 0 R 0 workloads outside [] [] [] [] []))
+
+-- and those after them: codes 4 to 8, and 13 after 5
+abbrev pub fromEdges : ℕ → ℕ → ℕ → List ℕ → List ℕ → List ℕ → List ℕ → List ℕ → List Row
+fromEdges kinds R S edges counts visits constraints colouring =
+    drop 6 (planTable kinds R S [] [] edges counts visits constraints colouring)
+
 -- the rows on a plan, in turn from none, give its refusal
-pub plan-in-turn : (kinds R S : ℕ) (workloads edges counts visits constraints colouring : List ℕ) → inTurn none (planTable kinds R S workloads edges counts visits constraints colouring) ≡ planRefusal kinds R S workloads edges counts visits constraints colouring
+pub plan-in-turn : (kinds R S : ℕ) (workloads outside edges counts visits constraints colouring : List ℕ) → inTurn none (planTable kinds R S workloads outside edges counts visits constraints colouring) ≡ planRefusal kinds R S workloads outside edges counts visits constraints colouring
 unfolding planTable planRefusal
-plan-in-turn kinds R S workloads edges counts visits constraints colouring =
-    in-turn (planTable kinds R S workloads edges counts visits constraints colouring) tt
+plan-in-turn kinds R S workloads outside edges counts visits constraints colouring =
+    in-turn (planTable kinds R S workloads outside edges counts visits constraints colouring) tt
 
 -- the rows on the moves and the room, in turn from the refusal of the plan, give the call's
-pub call-in-turn : (g : Given) → inTurn (planRefusal mostKind (g .R) (g .S) (g .workloads) (g .edges) (g .counts) (g .visits) (g .constraints) (g .colouring)) (roomTable (g .R) (g .S) (g .constraints) (g .moves) (g .rows) (g .verdicts) (g .work)) ≡ callRefusal g
+pub call-in-turn : (g : Given) → inTurn (planRefusal mostKind (g .R) (g .S) (g .workloads) (g .outside) (g .edges) (g .counts) (g .visits) (g .constraints) (g .colouring)) (roomTable (g .R) (g .S) (g .constraints) (g .moves) (g .rows) (g .verdicts) (g .work)) ≡ callRefusal g
 unfolding planTable planRefusal roomTable callTable callRefusal
 call-in-turn g =
     in-turn-more
-    (planTable mostKind (g .R) (g .S) (g .workloads) (g .edges) (g .counts) (g .visits) (g .constraints) (g .colouring))
+    (planTable mostKind (g .R) (g .S) (g .workloads) (g .outside) (g .edges) (g .counts) (g .visits) (g .constraints) (g .colouring))
     (roomTable (g .R) (g .S) (g .constraints) (g .moves) (g .rows) (g .verdicts) (g .work))
     tt
     tt

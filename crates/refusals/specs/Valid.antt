@@ -15,13 +15,13 @@ use Rattle.terms.specs.Plan.{within}
 use Rattle.meaning.specs.Plan.{Visit, edgeLength, visitLength, constraintLength, edgeAt, constraintAt, edgesOf, flightsOf, constraintsOf, planOf, mostRegions, mostSectors, mostWorkload, mostEdges, mostArea, mostFlights, mostVisits, mostDwell, mostKind, mostConstraints, mostLimit, mostWeight, mostMoves, EdgeLimits, VisitLimits, FlightLimits, ConstraintLimits, Limits, Coloured}
 use Rattle.meaning.specs.Flights.{length-flight, length-flightsOf}
 use Rattle.meaning.specs.Moves.{moveLength, rowLength, verdictLength}
-use Rattle.refusals.specs.Table.{firstOff, workloadRight, edgeRight, countRight, visitsRight, flightRight, takes, constraintRight, sectorRight, planTable, roomTable, Given, callTable, callRefusal, planRefusal}
+use Rattle.refusals.specs.Table.{firstOff, atMost, edgeRight, countRight, visitsRight, flightRight, takes, constraintRight, sectorRight, planTable, roomTable, Given, callTable, callRefusal, planRefusal}
 use Rattle.refusals.specs.Passed.{Passed, passed, passed-none, passed-more, both, all-five, in-limits, passed-in, passed-equal, passed-most, passed-records, passed-each}
 
 -- a plan within the limits, in whole records, with the visits that its flights' counts ask for, with at least one constraint and with a colouring
-pub record ValidPlan (R S : ℕ) (workloads edges counts visits constraints colouring : List ℕ) : Type 0 where
-  pub limits : Limits (planOf R S workloads edges counts visits constraints)
-  pub coloured : Coloured (planOf R S workloads edges counts visits constraints) colouring
+pub record ValidPlan (R S : ℕ) (workloads outside edges counts visits constraints colouring : List ℕ) : Type 0 where
+  pub limits : Limits (planOf R S workloads outside edges counts visits constraints)
+  pub coloured : Coloured (planOf R S workloads outside edges counts visits constraints) colouring
   pub edges-whole : length edges % edgeLength ≡ 0
   pub count : Every (In mostVisits) counts
   pub visits-whole : length visits ≡ visitLength * sum counts (λ n. n)
@@ -30,7 +30,7 @@ pub record ValidPlan (R S : ℕ) (workloads edges counts visits constraints colo
 
 -- a valid plan, moves in whole records and not too many of them, and room for what the call writes
 pub record Valid (g : Given) : Type 0 where
-  pub plan : ValidPlan (g .R) (g .S) (g .workloads) (g .edges) (g .counts) (g .visits) (g .constraints) (g .colouring)
+  pub plan : ValidPlan (g .R) (g .S) (g .workloads) (g .outside) (g .edges) (g .counts) (g .visits) (g .constraints) (g .colouring)
   pub moves-whole : length (g .moves) % moveLength ≡ 0
   pub moves-few : length (g .moves) / moveLength ≤ mostMoves
   pub rows-room : rowLength * (length (g .moves) / moveLength) ≤ g .rows
@@ -79,9 +79,9 @@ every-at P (x ∷ xs) h = (h 0 (omega arith), every-at P xs (λ k l. h (suc k) (
 
 -- ---- a list of which each item is right
 
-each-workload : (workloads : List ℕ) → not (eqb (firstOff (length workloads) (workloadRight workloads)) 0) ≡ false → Every (λ w. w ≤ mostWorkload) workloads
-each-workload workloads e =
-    every-at (λ w. w ≤ mostWorkload) workloads (λ k h. leb→le _ _ (passed-each (workloadRight workloads) (length workloads) e k h))
+each-number : (most : ℕ) (numbers : List ℕ) → not (eqb (firstOff (length numbers) (atMost most numbers)) 0) ≡ false → Every (λ x. x ≤ most) numbers
+each-number most numbers e =
+    every-at (λ x. x ≤ most) numbers (λ k h. leb→le _ _ (passed-each (atMost most numbers) (length numbers) e k h))
 
 each-edge : (R : ℕ) (edges : List ℕ) → not (eqb (firstOff (length edges / edgeLength) (edgeRight R edges)) 0) ≡ false → Every (EdgeLimits R) (edgesOf edges)
 unfolding edgesOf
@@ -123,13 +123,15 @@ each-sector S colouring e u h =
 
 -- ---- the theorems
 
-passed-plan : (kinds : ℕ) → kinds ≤ mostKind → (R S : ℕ) (workloads edges counts visits constraints colouring : List ℕ) → Passed (planTable kinds R S workloads edges counts visits constraints colouring) → ValidPlan R S workloads edges counts visits constraints colouring
+passed-plan : (kinds : ℕ) → kinds ≤ mostKind → (R S : ℕ) (workloads outside edges counts visits constraints colouring : List ℕ) → Passed (planTable kinds R S workloads outside edges counts visits constraints colouring) → ValidPlan R S workloads outside edges counts visits constraints colouring
 unfolding planTable edgesOf constraintsOf
-passed-plan kinds known R S workloads edges counts visits constraints colouring regions =
+passed-plan kinds known R S workloads outside edges counts visits constraints colouring regions =
     let sectors = regions .1 in
     let workloads-long = sectors .1 in
     let workload = workloads-long .1 in
-    let edges-whole = workload .1 in
+    let outside-long = workload .1 in
+    let outside-area = outside-long .1 in
+    let edges-whole = outside-area .1 in
     let edge = edges-whole .1 in
     let flights-few = edge .1 in
     let count = flights-few .1 in
@@ -150,7 +152,9 @@ passed-plan kinds known R S workloads edges counts visits constraints colouring 
             R = passed-in mostRegions R (regions .0);
             S = passed-in mostSectors S (sectors .0);
             workloads = passed-equal (length workloads) R (workloads-long .0);
-            workload = each-workload workloads (workload .0);
+            workload = each-number mostWorkload workloads (workload .0);
+            outside = passed-equal (length outside) R (outside-long .0);
+            outsideArea = each-number mostArea outside (outside-area .0);
             edges = rw (length-listOf (length edges / edgeLength) (edgeAt edges)) (of-edges .1 .1);
             edge = each-edge R edges (edge .0);
             flights = rw (length-flightsOf counts visits) (passed-most (length counts) mostFlights (flights-few .0));
@@ -167,10 +171,10 @@ passed-plan kinds known R S workloads edges counts visits constraints colouring 
     }
 
 -- a plan that is not refused is valid, whichever of the kinds its constraints may have
-pub valid-plan : (kinds : ℕ) → kinds ≤ mostKind → (R S : ℕ) (workloads edges counts visits constraints colouring : List ℕ) → planRefusal kinds R S workloads edges counts visits constraints colouring .code ≡ 0 → ValidPlan R S workloads edges counts visits constraints colouring
+pub valid-plan : (kinds : ℕ) → kinds ≤ mostKind → (R S : ℕ) (workloads outside edges counts visits constraints colouring : List ℕ) → planRefusal kinds R S workloads outside edges counts visits constraints colouring .code ≡ 0 → ValidPlan R S workloads outside edges counts visits constraints colouring
 unfolding planTable planRefusal
-valid-plan kinds known R S workloads edges counts visits constraints colouring z =
-    passed-plan kinds known R S workloads edges counts visits constraints colouring (passed (planTable kinds R S workloads edges counts visits constraints colouring) tt z)
+valid-plan kinds known R S workloads outside edges counts visits constraints colouring z =
+    passed-plan kinds known R S workloads outside edges counts visits constraints colouring (passed (planTable kinds R S workloads outside edges counts visits constraints colouring) tt z)
 
 passed-call : (g : Given) → callRefusal g .code ≡ 0 → Passed (callTable g)
 unfolding planTable roomTable callTable callRefusal
@@ -180,14 +184,14 @@ passed-call g z = passed (callTable g) tt z
 pub valid : (g : Given) → callRefusal g .code ≡ 0 → Valid g
 unfolding roomTable callTable
 valid g z =
-    let p = passed-more (planTable mostKind (g .R) (g .S) (g .workloads) (g .edges) (g .counts) (g .visits) (g .constraints) (g .colouring)) _ (passed-call g z) in
+    let p = passed-more (planTable mostKind (g .R) (g .S) (g .workloads) (g .outside) (g .edges) (g .counts) (g .visits) (g .constraints) (g .colouring)) _ (passed-call g z) in
     let moves = p .1 in
     let rows = moves .1 in
     let verdicts = rows .1 in
     let work = verdicts .1 in
     let of-moves = passed-records moveLength 0 mostMoves (g .moves) (moves .0) in
     record {
-      plan = passed-plan mostKind (omega arith) (g .R) (g .S) (g .workloads) (g .edges) (g .counts) (g .visits) (g .constraints) (g .colouring) (p .0);
+      plan = passed-plan mostKind (omega arith) (g .R) (g .S) (g .workloads) (g .outside) (g .edges) (g .counts) (g .visits) (g .constraints) (g .colouring) (p .0);
       moves-whole = of-moves .0;
       moves-few = of-moves .1 .1;
       rows-room = passed-most _ _ (rows .0);

@@ -6,9 +6,9 @@ ghost use lib.Dec.{eqb, leb};
 ghost use lib.ListN.{length};
 ghost use Rattle.lists.specs.Sums.{sum};
 ghost use Rattle.lists.specs.Few.{Few};
-ghost use Rattle.meaning.specs.Plan.{edgeLength, visitLength, constraintLength, mostEdges, mostFlights, mostVisits, mostConstraints};
-ghost use Rattle.refusals.specs.Table.{whole, item, each, records, workloadRight, edgeRight, countRight, flightRight, constraintRight, sectorRight, given, planRefusal, callRefusal};
-ghost use Rattle.refusals.specs.Turn.{after, inTurn};
+ghost use Rattle.meaning.specs.Plan.{edgeLength, visitLength, constraintLength, mostEdges, mostFlights, mostVisits, mostConstraints, noOutside};
+ghost use Rattle.refusals.specs.Table.{none, whole, item, each, records, atMost, edgeRight, countRight, flightRight, constraintRight, sectorRight, given, planRefusal, callRefusal};
+ghost use Rattle.refusals.specs.Turn.{after, inTurn, onSizes, onRegions, fromEdges};
 
 pub mod scans;
 
@@ -52,15 +52,23 @@ impl Refusal {
         self.or(code, place != 0, place)
     }
 
-    // What is refused so far, or else code 3 for the list, or at a workload of it.
-    fn or_workloads(self, regions: u64, workloads: &[u64]) -> Refusal
-        ensures { λ f. let workloads = now (workloads .entry) in ⌜ f ≡ after (after self (whole 3 (eqb (length workloads) regions))) (each 3 (length workloads) (workloadRight workloads)) ⌝ }
+    // What is refused so far, or else `code` for the list, which is to hold a number for each region, or at a number of it above `most`.
+    fn or_numbers(self, code: u64, regions: u64, most: u64, numbers: &[u64]) -> Refusal
+        ensures { λ f. let numbers = now (numbers .entry) in ⌜ f ≡ after (after self (whole code (eqb (length numbers) regions))) (each code (length numbers) (atMost most numbers)) ⌝ }
     {
-        let f = self.unless(3, workloads.len() as u64 == regions);
+        let f = self.unless(code, numbers.len() as u64 == regions);
         if f.code != 0 {
             return f;
         }
-        f.or_at(3, scans::first_bad_workload(workloads))
+        f.or_at(code, scans::first_above(most, numbers))
+    }
+
+    // What is refused so far, or else code 3 for the workloads, or code 14 for the faces to the outside.
+    fn or_regions(self, regions: u64, workloads: &[u64], outside: &[u64]) -> Refusal
+        ensures { λ f. ⌜ f ≡ inTurn self (onRegions regions (now (workloads .entry)) (now (outside .entry))) ⌝ }
+    {
+        self.or_numbers(3, regions, limits::MOST_WORKLOAD, workloads)
+            .or_numbers(14, regions, limits::MOST_AREA, outside)
     }
 
     // What is refused so far, or else code 4 for the list, or code 5 at an edge of it.
@@ -141,30 +149,90 @@ impl Refusal {
         }
         f.or_at(8, scans::first_bad_sector(sectors, colouring))
     }
+
+    // What is refused so far, or else codes 4 to 8, and 13 after 5.
+    fn or_from_edges(
+        self,
+        kinds: u64,
+        regions: u64,
+        sectors: u64,
+        edges: &[u64],
+        counts: &[u64],
+        visits: &[u64],
+        constraints: &[u64],
+        colouring: &[u64],
+    ) -> Refusal
+        ensures { λ f. ⌜ f ≡ inTurn self (fromEdges kinds regions sectors (now (edges .entry)) (now (counts .entry)) (now (visits .entry)) (now (constraints .entry)) (now (colouring .entry))) ⌝ }
+    {
+        self.or_edges(regions, edges)
+            .or_flights(regions, counts, visits)
+            .or_constraints(kinds, constraints)
+            .or_colouring(regions, sectors, colouring)
+    }
 }
 
-// What a plan with constraints of the kinds 1 to `kinds`, and its colouring, are refused for: codes 1 to 8, and 13 after 5.
+// What the numbers of regions and sectors are refused for: codes 1 and 2.
+fn size_refusal(regions: u64, sectors: u64) -> Refusal
+    ensures { λ f. ⌜ f ≡ inTurn none (onSizes regions sectors) ⌝ }
+{
+    Refusal::NONE
+        .unless(1, in_limits(1, regions, limits::MOST_REGIONS))
+        .unless(2, in_limits(1, sectors, limits::MOST_SECTORS))
+}
+
+// What a plan with constraints of the kinds 1 to `kinds`, and its colouring, are refused for: codes 1 to 8, 14 after 3, and 13 after 5.
 pub fn plan_refusal(
     kinds: u64,
     regions: u64,
     sectors: u64,
     workloads: &[u64],
+    outside: &[u64],
     edges: &[u64],
     counts: &[u64],
     visits: &[u64],
     constraints: &[u64],
     colouring: &[u64],
 ) -> Refusal
-    ensures { λ f. ⌜ f ≡ planRefusal kinds regions sectors (now (workloads .entry)) (now (edges .entry)) (now (counts .entry)) (now (visits .entry)) (now (constraints .entry)) (now (colouring .entry)) ⌝ }
+    ensures { λ f. ⌜ f ≡ planRefusal kinds regions sectors (now (workloads .entry)) (now (outside .entry)) (now (edges .entry)) (now (counts .entry)) (now (visits .entry)) (now (constraints .entry)) (now (colouring .entry)) ⌝ }
 {
-    Refusal::NONE
-        .unless(1, in_limits(1, regions, limits::MOST_REGIONS))
-        .unless(2, in_limits(1, sectors, limits::MOST_SECTORS))
-        .or_workloads(regions, workloads)
-        .or_edges(regions, edges)
-        .or_flights(regions, counts, visits)
-        .or_constraints(kinds, constraints)
-        .or_colouring(regions, sectors, colouring)
+    size_refusal(regions, sectors)
+        .or_regions(regions, workloads, outside)
+        .or_from_edges(
+            kinds,
+            regions,
+            sectors,
+            edges,
+            counts,
+            visits,
+            constraints,
+            colouring,
+        )
+}
+
+// The same of a plan without outside areas and without flights: codes 1 to 8.
+pub fn plain_refusal(
+    kinds: u64,
+    regions: u64,
+    sectors: u64,
+    workloads: &[u64],
+    edges: &[u64],
+    constraints: &[u64],
+    colouring: &[u64],
+) -> Refusal
+    ensures { λ f. ⌜ f ≡ planRefusal kinds regions sectors (now (workloads .entry)) (noOutside regions) (now (edges .entry)) [] [] (now (constraints .entry)) (now (colouring .entry)) ⌝ }
+{
+    size_refusal(regions, sectors)
+        .or_numbers(3, regions, limits::MOST_WORKLOAD, workloads)
+        .or_from_edges(
+            kinds,
+            regions,
+            sectors,
+            edges,
+            &[],
+            &[],
+            constraints,
+            colouring,
+        )
 }
 
 // Whether the work memory has room for R + 2S + 1 numbers, whatever R and S are.
@@ -178,11 +246,12 @@ fn room_for_work(regions: u64, sectors: u64, work: usize) -> bool
     sectors <= (room - regions - 1) / 2
 }
 
-// What a call is refused for: codes 1 to 13. Of the memory that it only writes, the room is given.
+// What a call is refused for: codes 1 to 14. Of the memory that it only writes, the room is given.
 pub fn call_refusal(
     regions: u64,
     sectors: u64,
     workloads: &[u64],
+    outside: &[u64],
     edges: &[u64],
     counts: &[u64],
     visits: &[u64],
@@ -193,7 +262,7 @@ pub fn call_refusal(
     verdicts: usize,
     work: usize,
 ) -> Refusal
-    ensures { λ f. ⌜ f ≡ callRefusal (given regions sectors (now (workloads .entry)) (now (edges .entry)) (now (counts .entry)) (now (visits .entry)) (now (constraints .entry)) (now (colouring .entry)) (now (moves .entry)) rows verdicts work) ⌝ }
+    ensures { λ f. ⌜ f ≡ callRefusal (given regions sectors (now (workloads .entry)) (now (outside .entry)) (now (edges .entry)) (now (counts .entry)) (now (visits .entry)) (now (constraints .entry)) (now (colouring .entry)) (now (moves .entry)) rows verdicts work) ⌝ }
 {
     let rows_needed = limits::ROW_LENGTH * (moves.len() / limits::MOVE_LENGTH);
     let verdicts_needed = limits::VERDICT_LENGTH * (constraints.len() / limits::CONSTRAINT_LENGTH);
@@ -202,6 +271,7 @@ pub fn call_refusal(
         regions,
         sectors,
         workloads,
+        outside,
         edges,
         counts,
         visits,

@@ -7,7 +7,7 @@ ghost use lib.ListN.{length};
 ghost use Rattle.lists.specs.Sums.{sum};
 ghost use Rattle.terms.specs.Plan.{within};
 ghost use Rattle.meaning.specs.Plan.{edgeLength, visitLength, constraintLength, edgeAt, visitAt, visitsOf, mostDwell};
-ghost use Rattle.refusals.specs.Table.{records, firstOff, workloadRight, edgeRight, above, countRight, visitsRight, flightRight, takes, constraintRight, sectorRight};
+ghost use Rattle.refusals.specs.Table.{records, firstOff, atMost, edgeRight, above, countRight, visitsRight, flightRight, takes, constraintRight, sectorRight};
 use terms::Relation;
 use terms::in_limits;
 use terms::limits;
@@ -36,13 +36,13 @@ pub(crate) fn whole_records(width: usize, low: u64, high: u64, numbers: &[u64]) 
     )
 }
 
-// The place, from 1, of the first workload that is too large, or 0.
-pub fn first_bad_workload(workloads: &[u64]) -> u64
-    ensures { λ r. ⌜ r ≡ firstOff (length (now (workloads .entry))) (workloadRight (now (workloads .entry))) ⌝ }
+// The place, from 1, of the first number above `most`, or 0.
+pub fn first_above(most: u64, numbers: &[u64]) -> u64
+    ensures { λ r. ⌜ r ≡ firstOff (length (now (numbers .entry))) (atMost most (now (numbers .entry))) ⌝ }
 {
     let mut k = 0;
-    while k < workloads.len() {
-        if limits::MOST_WORKLOAD < workloads[k] {
+    while k < numbers.len() {
+        if most < numbers[k] {
             return k as u64 + 1;
         }
         k += 1;

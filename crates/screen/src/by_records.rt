@@ -15,6 +15,7 @@ pub extern "C" fn sctr_call_records(
     regions: u64,
     sectors: u64,
     workloads: &[u64],
+    outside: &[u64],
     edges: &[u64],
     counts: &[u64],
     visits: &[u64],
@@ -25,7 +26,7 @@ pub extern "C" fn sctr_call_records(
     verdicts: &mut [u64],
     work: &mut [u64],
 ) -> Answer
-    ensures { λ r. ⌜ call.Promise (call.input regions sectors (now (workloads .entry)) (now (edges .entry)) (now (counts .entry)) (now (visits .entry)) (numbersOf (now (constraints .entry))) (now (colouring .entry)) (now (moves .entry)) (now (rows .entry)) (now (verdicts .entry)) (now (work .entry))) (call.left r (now (colouring .exit)) (now (rows .exit)) (now (verdicts .exit)) (now (work .exit))) ⌝ }
+    ensures { λ r. ⌜ call.Promise (call.input regions sectors (now (workloads .entry)) (now (outside .entry)) (now (edges .entry)) (now (counts .entry)) (now (visits .entry)) (numbersOf (now (constraints .entry))) (now (colouring .entry)) (now (moves .entry)) (now (rows .entry)) (now (verdicts .entry)) (now (work .entry))) (call.left r (now (colouring .exit)) (now (rows .exit)) (now (verdicts .exit)) (now (work .exit))) ⌝ }
 {
     judge_front(
         array_of(constraints),
@@ -33,6 +34,7 @@ pub extern "C" fn sctr_call_records(
         regions,
         sectors,
         workloads,
+        outside,
         edges,
         counts,
         visits,

@@ -12,6 +12,7 @@ pub extern "C" fn sctr_call(
     regions: u64,
     sectors: u64,
     workloads: &[u64],
+    outside: &[u64],
     edges: &[u64],
     counts: &[u64],
     visits: &[u64],
@@ -22,12 +23,13 @@ pub extern "C" fn sctr_call(
     verdicts: &mut [u64],
     work: &mut [u64],
 ) -> Answer
-    ensures { λ r. ⌜ Promise (input regions sectors (now (workloads .entry)) (now (edges .entry)) (now (counts .entry)) (now (visits .entry)) (now (constraints .entry)) (now (colouring .entry)) (now (moves .entry)) (now (rows .entry)) (now (verdicts .entry)) (now (work .entry))) (left r (now (colouring .exit)) (now (rows .exit)) (now (verdicts .exit)) (now (work .exit))) ⌝ }
+    ensures { λ r. ⌜ Promise (input regions sectors (now (workloads .entry)) (now (outside .entry)) (now (edges .entry)) (now (counts .entry)) (now (visits .entry)) (now (constraints .entry)) (now (colouring .entry)) (now (moves .entry)) (now (rows .entry)) (now (verdicts .entry)) (now (work .entry))) (left r (now (colouring .exit)) (now (rows .exit)) (now (verdicts .exit)) (now (work .exit))) ⌝ }
 {
     call::judge(
         regions,
         sectors,
         workloads,
+        outside,
         edges,
         counts,
         visits,

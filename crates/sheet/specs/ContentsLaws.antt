@@ -7,7 +7,7 @@ use mathlib.Core.List.{List, [], _∷_, _++_}
 use lib.ListN.{length, take, drop, length-take, length-drop, take-append-drop}
 use lib.Seq.{take-at, drop-at, take-all}
 use Rattle.lists.specs.ListLaws.{length-listOf}
-use Rattle.meaning.specs.Plan.{edgeLength, constraintLength, edgeAt, constraintAt, edgesOf, constraintsOf}
+use Rattle.meaning.specs.Plan.{edgeLength, constraintLength, edgeAt, constraintAt, edgesOf, constraintsOf, noOutside}
 use Rattle.refusals.specs.Valid.{ValidPlan, valid-plan}
 use Rattle.sheet.specs.declared.Counts.{Counts}
 use Rattle.sheet.specs.Form.{widths, turned, Contents, countsOf, numbers, contentsOf}
@@ -100,13 +100,13 @@ numbers-contents c ns l h =
 
 -- ---- contents that are not refused
 
--- contents are a valid plan, which has no flights
+-- contents are a valid plan, which has no outside areas and no flights
 abbrev pub ValidContents : Contents → Type 0
-ValidContents k = ValidPlan (k .R) (k .S) (k .workloads) (k .edges) [] [] (k .constraints) (k .colouring)
+ValidContents k = ValidPlan (k .R) (k .S) (k .workloads) (noOutside (k .R)) (k .edges) [] [] (k .constraints) (k .colouring)
 
 -- contents that are not refused are
 pub valid-contents : (k : Contents) → contentsRefusal k .code ≡ 0 → ValidContents k
-valid-contents k z = valid-plan sheetKinds (omega arith) (k .R) (k .S) (k .workloads) (k .edges) [] [] (k .constraints) (k .colouring) z
+valid-contents k z = valid-plan sheetKinds (omega arith) (k .R) (k .S) (k .workloads) (noOutside (k .R)) (k .edges) [] [] (k .constraints) (k .colouring) z
 
 -- a valid plan has as many of each as its own counts say
 pub counted-valid : (k : Contents) → ValidContents k → Counted (countsOf k) k

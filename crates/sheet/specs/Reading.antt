@@ -8,7 +8,7 @@ use lib.Dec.{eqb, leb}
 use lib.ListN.{length, drop}
 use Rattle.packing.specs.Numbers.{total}
 use Rattle.terms.specs.Plan.{within}
-use Rattle.meaning.specs.Plan.{edgeLength, constraintLength, mostRegions, mostSectors, mostEdges, mostConstraints}
+use Rattle.meaning.specs.Plan.{edgeLength, constraintLength, mostRegions, mostSectors, mostEdges, mostConstraints, noOutside}
 use Rattle.refusals.specs.declared.Refusal.{Refusal}
 use Rattle.refusals.specs.Table.{Row, whole, item, refusal, planTable, planRefusal}
 use Rattle.blocks.specs.Block.{blockLength, wrong}
@@ -47,13 +47,13 @@ openTable sheet =
 abbrev pub sheetKinds : ℕ
 sheetKinds = 4
 
--- the call's rows on a plan, for what a sheet holds: there are no flights
+-- the call's rows on a plan, for what a sheet holds: there are no outside areas and no flights
 abbrev pub contentsTable : Contents → List Row
-contentsTable k = planTable sheetKinds (k .R) (k .S) (k .workloads) (k .edges) [] [] (k .constraints) (k .colouring)
+contentsTable k = planTable sheetKinds (k .R) (k .S) (k .workloads) (noOutside (k .R)) (k .edges) [] [] (k .constraints) (k .colouring)
 
 -- what is refused of it
 abbrev pub contentsRefusal : Contents → Refusal
-contentsRefusal k = planRefusal sheetKinds (k .R) (k .S) (k .workloads) (k .edges) [] [] (k .constraints) (k .colouring)
+contentsRefusal k = planRefusal sheetKinds (k .R) (k .S) (k .workloads) (noOutside (k .R)) (k .edges) [] [] (k .constraints) (k .colouring)
 
 -- the rows on the later blocks in turn and on what they hold: 37 with the call's code for it
 unfoldable pub heldTable : List ℕ → List Row

@@ -3,10 +3,10 @@ ghost use mathlib.Core.Path.{_≡_};
 ghost use Rattle.sheet.specs.Reading.{contentsRefusal};
 ghost use Rattle.sheet.specs.Writing.{contents};
 use refusals::Refusal;
-use refusals::plan_refusal;
+use refusals::plain_refusal;
 use terms::limits::BOUNDED;
 
-// The call's refusal of a plan without flights, and with constraints of the kinds 1 to 4 only.
+// The call's refusal of a plan without outside areas and without flights, and with constraints of the kinds 1 to 4 only.
 pub fn contents_refusal(
     regions: u64,
     sectors: u64,
@@ -17,14 +17,12 @@ pub fn contents_refusal(
 ) -> Refusal
     ensures { λ f. ⌜ f ≡ contentsRefusal (contents regions sectors (now (workloads .entry)) (now (edges .entry)) (now (constraints .entry)) (now (colouring .entry))) ⌝ }
 {
-    plan_refusal(
+    plain_refusal(
         BOUNDED,
         regions,
         sectors,
         workloads,
         edges,
-        &[],
-        &[],
         constraints,
         colouring,
     )

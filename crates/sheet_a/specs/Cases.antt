@@ -1,4 +1,4 @@
--- Document 01, "Sheet A and its numbers": the lines marked P, and lines for document 02's C-11 that were worked out by hand, as one table and one theorem.
+-- Document 01, "Sheet A and its numbers": the lines marked P, and lines for document 02's C-11 and C-12 that were worked out by hand, as one table and one theorem.
 -- Assumes nothing.
 use Prim.Native.Nat.{ℕ}
 use mathlib.Core.Path.{_≡_, refl}
@@ -7,33 +7,38 @@ use lib.IntN.{ℤ, pos}
 use Rattle.lists.specs.Sums.{upTo}
 use Rattle.terms.specs.Distance.{stands, distance}
 use Rattle.terms.specs.Moves.{recolouring, exchange, question, ofRegion, moveOf}
-use Rattle.meaning.specs.Plan.{Visit, Plan, edgesOf, visitsOf, flightsOf, constraintsOf, planOf}
+use Rattle.meaning.specs.Plan.{Visit, Plan, edgesOf, visitsOf, flightsOf, constraintsOf, planOf, noOutside}
 use Rattle.meaning.specs.Joined.{takeIn, takeAll, labels}
 use Rattle.meaning.specs.Stretches.{before, stretches, dwellOf, visits}
-use Rattle.meaning.specs.Kinds.{ncc, nccAll, load, whole, border, counts, loads, deviation, connected, bounded, dwelling, byKind, violation, holds, total, leadsTo, borderOf, dwellingOf, partOf, regionViolation}
+use Rattle.meaning.specs.Kinds.{ncc, nccAll, load, whole, outsideArea, border, counts, loads, deviation, connected, bounded, dwelling, byKind, violation, holds, total, leadsTo, borderOf, dwellingOf, partOf, regionViolation}
+use Rattle.meaning.specs.Outer.{faces, colours, isIn, surface}
 use Rattle.meaning.specs.Moves.{movesOf, next, delta, differing, relabelled, row, cells, rows, verdict, verdictsOf, verdicts, work}
 use Rattle.blocks.specs.Fletcher.{check}
 
 -- ---- the plans, a flight, and a text
 
--- sheet A, with given flights and further constraints: regions, sectors, workloads, edges, visit counts, visits, constraints
-sheetA : List ℕ → List ℕ → List ℕ → Plan
-sheetA counts visits constraints =
-    planOf 5 2 (10 ∷ 20 ∷ 30 ∷ 25 ∷ 15 ∷ [])
+-- sheet A, with given outside areas, flights and further constraints: regions, sectors, workloads, outside areas, edges, visit counts, visits, constraints
+sheetA : List ℕ → List ℕ → List ℕ → List ℕ → Plan
+sheetA outside counts visits constraints =
+    planOf 5 2 (10 ∷ 20 ∷ 30 ∷ 25 ∷ 15 ∷ []) outside
     (1 ∷ 2 ∷ 4 ∷ 2 ∷ 3 ∷ 6 ∷ 3 ∷ 4 ∷ 2 ∷ 4 ∷ 5 ∷ 3 ∷ [])
     counts visits
     ((1 ∷ 3 ∷ 2 ∷ 100 ∷ 2 ∷ 1 ∷ 5 ∷ 1 ∷ 3 ∷ 1 ∷ 40 ∷ 2 ∷ 4 ∷ 1 ∷ 55 ∷ 3 ∷ []) ++ constraints)
 
 -- sheet A as document 01 has it
 planA : Plan
-planA = sheetA [] [] []
+planA = sheetA (noOutside 5) [] [] []
 
 -- sheet A with two flights, and kind 5 with >= 90 and weight 2
 planF : Plan
 planF =
-    sheetA (5 ∷ 4 ∷ [])
+    sheetA (noOutside 5) (5 ∷ 4 ∷ [])
     (1 ∷ 60 ∷ 2 ∷ 40 ∷ 4 ∷ 30 ∷ 5 ∷ 50 ∷ 1 ∷ 20 ∷ 3 ∷ 10 ∷ 2 ∷ 15 ∷ 3 ∷ 25 ∷ 4 ∷ 90 ∷ [])
     (5 ∷ 6 ∷ 90 ∷ 2 ∷ [])
+
+-- sheet A with outside areas, 11 in all
+planO : Plan
+planO = sheetA (7 ∷ 0 ∷ 1 ∷ 0 ∷ 3 ∷ []) [] [] []
 
 colouringA : List ℕ
 colouringA = 1 ∷ 1 ∷ 1 ∷ 2 ∷ 2 ∷ []
@@ -47,7 +52,7 @@ colouring12 = 1 ∷ 1 ∷ 4 ∷ 4 ∷ 4 ∷ 4 ∷ 4 ∷ 4 ∷ 1 ∷ 1 ∷ 1 ∷ 
 
 -- one region of a given workload, 64 sectors, kind 4 with >= 1
 lone : ℕ → Plan
-lone workload = planOf 1 64 (workload ∷ []) [] [] [] (4 ∷ 6 ∷ 1 ∷ 1 ∷ [])
+lone workload = planOf 1 64 (workload ∷ []) (noOutside 1) [] [] [] (4 ∷ 6 ∷ 1 ∷ 1 ∷ [])
 
 -- "abcde" in ASCII
 abcde : List ℕ
@@ -108,11 +113,27 @@ ofFlights =
     ∷ (rowsOn planF (2 ∷ 3 ∷ 2 ∷ []) is (0 ∷ 341 ∷ 596 ∷ 3 ∷ []))
     ∷ []
 
+-- C-12's lines: planO, where T is 2 + 11, which is 8 above its limit of 5, and the total is 15 + 8
+-- the border of region 1 is 0 + 7 and that of region 3 is 2 + 1: they have 55 + 7 and 57 + 1
+-- with region 2 in sector 2 T is 12 + 11, 18 above the limit, where 12 alone is 7 above: the delta is 307 - 7 + (18 - 8)
+-- with region 3 in sector 2 T is 6 + 11, 12 above the limit, where 6 alone is 1 above: the delta is 111 - 1 + (12 - 8)
+-- by the report's equation (10) sector 1, which is regions 1, 2 and 3, has 7 + 0 + (1 + 2), and sector 2, which is 4 and 5, has 2 + 3
+ofOutside : List Case
+ofOutside =
+    (numbers (verdicts planO colouringA) is (1 ∷ 0 ∷ 0 ∷ 8 ∷ 1 ∷ 0 ∷ 0 ∷ 5 ∷ []))
+    ∷ (rowsOn planO (5 ∷ 1 ∷ 0 ∷ []) is (0 ∷ 62 ∷ 23 ∷ 0 ∷ []))
+    ∷ (rowsOn planO (5 ∷ 3 ∷ 0 ∷ []) is (0 ∷ 58 ∷ 23 ∷ 0 ∷ []))
+    ∷ (rowsOn planO (1 ∷ 2 ∷ 2 ∷ []) is (0 ∷ 310 ∷ 23 ∷ 0 ∷ []))
+    ∷ (rowsOn planO (2 ∷ 3 ∷ 2 ∷ []) is (0 ∷ 114 ∷ 137 ∷ 3 ∷ []))
+    ∷ (numbers (work planO colouringA) is (1 ∷ 1 ∷ 1 ∷ 4 ∷ 4 ∷ 1 ∷ 1 ∷ 60 ∷ 40 ∷ 13 ∷ []))
+    ∷ (numbers (map (surface (faces planO) (colours colouringA 0)) ((1 ∷ 2 ∷ 3 ∷ []) ∷ (4 ∷ 5 ∷ []) ∷ [])) is (10 ∷ 5 ∷ []))
+    ∷ []
+
 -- all lines
 pub cases : List Case
-cases = ofSheetA ++ ofFlights
+cases = ofSheetA ++ ofFlights ++ ofOutside
 
 -- every line of the table is as it must be
 pub all-right : map (λ c. c .found) cases ≡ map (λ c. numbers (c .due)) cases
-unfolding sheetA planA planF colouringA flight12 colouring12 lone abcde rowsOn ofSheetA ofFlights cases stands distance recolouring exchange question ofRegion moveOf edgesOf visitsOf flightsOf constraintsOf takeIn takeAll labels before stretches visits ncc nccAll load whole border counts loads deviation connected bounded dwelling byKind violation holds total leadsTo borderOf dwellingOf partOf regionViolation movesOf next delta differing relabelled row cells rows verdict verdictsOf work
+unfolding sheetA planA planF planO colouringA flight12 colouring12 lone abcde rowsOn ofSheetA ofFlights ofOutside cases stands distance recolouring exchange question ofRegion moveOf edgesOf visitsOf flightsOf constraintsOf takeIn takeAll labels before stretches visits ncc nccAll load whole outsideArea border counts loads deviation connected bounded dwelling byKind violation holds total leadsTo borderOf dwellingOf partOf regionViolation movesOf next delta differing relabelled row cells rows verdict verdictsOf work isIn surface
 all-right = refl

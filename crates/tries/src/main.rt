@@ -1,10 +1,12 @@
-// Runs sheet A's lines that are not proved, a call with a flight, one call for each refusal and one for each status of a refused move.
+// Runs sheet A's lines that are not proved, a call with a flight, calls with outside areas, one call for each refusal and one for each status of a refused move.
 // A line has a name and the call's answer: code, place, first total, last total; for a status, the move's row.
 ghost use Prim.Native.Nat.{_≤_};
 use call::Answer;
 use libc::STDOUT_FILENO;
 
 const WORKLOADS: [u64; 5] = [10, 20, 30, 25, 15];
+
+const NO_OUTSIDE: [u64; 5] = [0; 5];
 
 const EDGES: [u64; 12] = [1, 2, 4, 2, 3, 6, 3, 4, 2, 4, 5, 3];
 
@@ -43,6 +45,7 @@ fn call_with(
     regions: u64,
     sectors: u64,
     workloads: &[u64],
+    outside: &[u64],
     edges: &[u64],
     counts: &[u64],
     visits: &[u64],
@@ -62,6 +65,7 @@ fn call_with(
         regions,
         sectors,
         workloads,
+        outside,
         edges,
         counts,
         visits,
@@ -89,6 +93,7 @@ fn plan_with(
         regions,
         sectors,
         workloads,
+        &NO_OUTSIDE,
         edges,
         &[],
         &[],
@@ -109,10 +114,32 @@ fn flights_with(name: &[u8], counts: &[u64], visits: &[u64]) {
         5,
         2,
         &WORKLOADS,
+        &NO_OUTSIDE,
         &EDGES,
         counts,
         visits,
         &[5, 6, 60, 7],
+        &mut colouring,
+        &[2, 3, 2],
+        4,
+        8,
+        10,
+    );
+}
+
+// A call on sheet A but for these lists, with the move that gives region 3 to sector 2.
+fn outside_with(name: &[u8], workloads: &[u64], outside: &[u64], edges: &[u64]) {
+    let mut colouring = [1u64, 1, 1, 2, 2];
+    call_with(
+        name,
+        5,
+        2,
+        workloads,
+        outside,
+        edges,
+        &[],
+        &[],
+        &CONSTRAINTS,
         &mut colouring,
         &[2, 3, 2],
         4,
@@ -127,6 +154,7 @@ fn colouring_with(name: &[u8], colouring: &mut [u64]) {
         5,
         2,
         &WORKLOADS,
+        &NO_OUTSIDE,
         &EDGES,
         &[],
         &[],
@@ -148,6 +176,7 @@ fn room_with(name: &[u8], moves: &[u64], rows: usize, verdicts: usize, work: usi
         5,
         2,
         &WORKLOADS,
+        &NO_OUTSIDE,
         &EDGES,
         &[],
         &[],
@@ -170,6 +199,7 @@ fn row_of(name: &[u8], moves: &[u64; 3]) {
         5,
         2,
         &WORKLOADS,
+        &NO_OUTSIDE,
         &EDGES,
         &[],
         &[],
@@ -217,6 +247,22 @@ fn sheet_a_lines() {
     flights_with(b"a flight:", &[3], &[1, 30, 3, 40, 4, 50]);
 }
 
+fn outside_lines() {
+    outside_with(b"outside areas:", &WORKLOADS, &[7, 0, 1, 0, 3], &EDGES);
+    outside_with(
+        b"outside area 1000000:",
+        &WORKLOADS,
+        &[7, 1_000_000, 1, 0, 3],
+        &EDGES,
+    );
+    outside_with(
+        b"outside area 1000001:",
+        &WORKLOADS,
+        &[7, 1_000_001, 1, 0, 3],
+        &EDGES,
+    );
+}
+
 fn codes_of_a_plan() {
     plan_with(b"code 1:", 0, 2, &WORKLOADS, &EDGES, &CONSTRAINTS);
     plan_with(b"code 2:", 5, 65, &WORKLOADS, &EDGES, &CONSTRAINTS);
@@ -243,6 +289,22 @@ fn codes_of_a_plan() {
     colouring_with(b"code 8, a sector:", &mut [1, 1, 1, 3, 2]);
 }
 
+fn codes_of_the_outside() {
+    outside_with(b"code 14:", &WORKLOADS, &[7, 0, 1, 0], &EDGES);
+    outside_with(
+        b"code 3, before 14:",
+        &[10, 20, 30, 25],
+        &[7, 0, 1, 0],
+        &EDGES,
+    );
+    outside_with(
+        b"code 14, before 4:",
+        &WORKLOADS,
+        &[7, 0, 1, 0, 1_000_001],
+        &[1, 2],
+    );
+}
+
 fn codes_of_flights() {
     flights_with(b"code 13:", &[1; 65], &[1; 130]);
     flights_with(b"code 13, a count:", &[3, 0], &[1, 30, 3, 40, 4, 50]);
@@ -265,7 +327,9 @@ fn statuses() {
 
 fn main() {
     sheet_a_lines();
+    outside_lines();
     codes_of_a_plan();
+    codes_of_the_outside();
     codes_of_flights();
     codes_of_the_room();
     statuses();

@@ -5,7 +5,7 @@
 use crate::canary::Lent;
 use crate::cases::{self, compare_all, Case, Code, Memory as _};
 use crate::library::{raw, Constraint};
-use crate::plans::{lower, lower_number, moves, one_less, plan, records, with_flights, without, Numbers, Random};
+use crate::plans::{lower, lower_number, moves, one_less, plan, records, with_flights, with_outside, without, Numbers, Random};
 use crate::reference::MOVES;
 use crate::{library, reference};
 
@@ -30,6 +30,7 @@ impl Call {
 
     pub fn random(random: &mut Random) -> Self {
         let plan = plan(random);
+        let plan = with_outside(random, plan);
         let plan = with_flights(random, plan);
         let count = if random.once_in(400) { MOVES as usize } else { random.pick(&[0, 1, 4, 12, 40]) };
         let moves = moves(random, &plan, count);
@@ -55,6 +56,7 @@ pub struct Memory {
     regions: u64,
     sectors: u64,
     workloads: Lent<u64>,
+    pub outside: Lent<u64>,
     edges: Lent<u64>,
     counts: Lent<u64>,
     pub visits: Lent<u64>,
@@ -69,11 +71,12 @@ pub struct Memory {
 
 impl Memory {
     pub fn of(call: &Call) -> Self {
-        let Numbers { regions, sectors, workloads, edges, counts, visits, constraints, colouring } = &call.plan;
+        let Numbers { regions, sectors, workloads, outside, edges, counts, visits, constraints, colouring } = &call.plan;
         Memory {
             regions: *regions,
             sectors: *sectors,
             workloads: Lent::list(workloads),
+            outside: Lent::list(outside),
             edges: Lent::list(edges),
             counts: Lent::list(counts),
             visits: Lent::list(visits),
@@ -95,6 +98,7 @@ impl cases::Memory for Memory {
         self.verdicts.same_as(&due.verdicts, "verdicts")?;
         self.work.same_as(&due.work, "work")?;
         self.workloads.same_as(&due.workloads, "workloads")?;
+        self.outside.same_as(&due.outside, "outside")?;
         self.edges.same_as(&due.edges, "edges")?;
         self.counts.same_as(&due.counts, "counts")?;
         self.visits.same_as(&due.visits, "visits")?;
@@ -113,6 +117,7 @@ macro_rules! answer {
             $memory.regions,
             $memory.sectors,
             $memory.workloads.slice(),
+            $memory.outside.slice(),
             $memory.edges.slice(),
             $memory.counts.slice(),
             $memory.visits.slice(),
@@ -146,8 +151,9 @@ macro_rules! archive_answer {
     ($call:path, $memory:ident, $constraints:ident) => {{
         let constraints = $memory.$constraints.parts();
         let rows = $memory.rows.parts();
-        let [workloads, edges, counts, visits, colouring, moves, verdicts, work] = [
+        let [workloads, outside, edges, counts, visits, colouring, moves, verdicts, work] = [
             &mut $memory.workloads,
+            &mut $memory.outside,
             &mut $memory.edges,
             &mut $memory.counts,
             &mut $memory.visits,
@@ -164,6 +170,8 @@ macro_rules! archive_answer {
                 $memory.sectors,
                 workloads.0,
                 workloads.1,
+                outside.0,
+                outside.1,
                 edges.0,
                 edges.1,
                 counts.0,

@@ -1,8 +1,10 @@
-//! Random plans within the documents' limits and moves on them; flights are in `flights`, numbers outside the limits in `wild`.
+//! Random plans within the documents' limits and moves on them; faces to the outside are in `outside`, flights in `flights`, numbers
+//! beyond the limits in `wild`.
 
 #![allow(dead_code, unused_imports)] // each test file takes its own part
 
 mod flights;
+mod outside;
 mod random;
 mod refused;
 mod smaller;
@@ -11,6 +13,7 @@ mod wild;
 use crate::library::Constraint;
 use crate::reference::*;
 pub use flights::{flights_along, with_flights};
+pub use outside::with_outside;
 pub use random::Random;
 pub use refused::{damaged, judged_damages, stored_damages, Damage, PlanDamage};
 pub use smaller::{lower, lower_number, one_less, without};
@@ -22,6 +25,7 @@ pub struct Numbers {
     pub regions: u64,
     pub sectors: u64,
     pub workloads: Vec<u64>,
+    pub outside: Vec<u64>,
     pub edges: Vec<u64>,
     pub counts: Vec<u64>,
     pub visits: Vec<u64>,
@@ -49,12 +53,18 @@ pub fn sheet_a() -> Numbers {
         regions: 5,
         sectors: 2,
         workloads: vec![10, 20, 30, 25, 15],
+        outside: vec![0; 5],
         edges: vec![1, 2, 4, 2, 3, 6, 3, 4, 2, 4, 5, 3],
         counts: vec![],
         visits: vec![],
         constraints: vec![1, 3, 2, 100, 2, 1, 5, 1, 3, 1, 40, 2, 4, 1, 55, 3],
         colouring: vec![1, 1, 1, 2, 2],
     }
+}
+
+/// Sheet A with faces to the outside.
+pub fn sheet_a_with_outside() -> Numbers {
+    Numbers { outside: vec![7, 0, 1, 0, 3], ..sheet_a() }
 }
 
 /// Sheet A with two flights, and with a fifth constraint: each stretch is of 60 seconds or more.
@@ -66,7 +76,7 @@ pub fn sheet_a_with_flights() -> Numbers {
     numbers
 }
 
-/// A plan of any size, without flights; small ones are the most frequent.
+/// A plan of any size, without outside areas and flights; small ones are the most frequent.
 pub fn plan(random: &mut Random) -> Numbers {
     let most = random.pick(&[1, 6, 6, 6, 12, 12, 12, 40, 150, REGIONS]);
     let regions = if random.once_in(3) { most } else { random.between(1, most) };
@@ -75,7 +85,7 @@ pub fn plan(random: &mut Random) -> Numbers {
     plan_of(random, regions, sectors)
 }
 
-/// A plan as large as a plan without flights can be.
+/// A plan as large as a plan without outside areas and flights can be.
 pub fn largest_plan(random: &mut Random) -> Numbers {
     let mut numbers = plan_of(random, REGIONS, SECTORS);
     let pairs = scattered(random, REGIONS, EDGES as usize);
@@ -89,11 +99,12 @@ pub fn plan_of(random: &mut Random, regions: u64, sectors: u64) -> Numbers {
     let ends = random.once_in(4);
     let workload = |random: &mut Random| if ends { random.pick(&[0, highest]) } else { random.between(0, highest) };
     let workloads = (0..regions).map(|_| workload(random)).collect();
+    let outside = vec![0; regions as usize];
     let pairs = pairs(random, regions);
     let colouring = colouring(random, regions, sectors, &pairs);
     let edges = measured(random, pairs);
     let (counts, visits, constraints) = (vec![], vec![], vec![]);
-    let mut numbers = Numbers { regions, sectors, workloads, edges, counts, visits, constraints, colouring };
+    let mut numbers = Numbers { regions, sectors, workloads, outside, edges, counts, visits, constraints, colouring };
     let count = if random.once_in(10) { CONSTRAINTS } else { random.between(1, 6) };
     numbers.constraints = self::constraints(random, &numbers, count);
     numbers

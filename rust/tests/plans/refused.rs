@@ -1,4 +1,5 @@
-//! Damage for every refusal: to sheet A's numbers for codes 1 to 8, to its flights for 13, and how damages are put together.
+//! Damage for every refusal: to sheet A's numbers for codes 1 to 8, to its outside areas for 14, to its flights for 13, and how
+//! damages are put together.
 
 use super::Numbers;
 
@@ -26,7 +27,7 @@ pub type PlanDamage = (u64, u64, fn(&mut Numbers));
 
 /// Damage to sheet A with flights, for the call.
 pub fn judged_damages() -> Vec<PlanDamage> {
-    in_order([PLAN_DAMAGES, FLIGHT_DAMAGES].concat())
+    in_order([PLAN_DAMAGES, OUTSIDE_DAMAGES, FLIGHT_DAMAGES].concat())
 }
 
 /// Damage to sheet A, for writing.
@@ -34,9 +35,13 @@ pub fn stored_damages() -> Vec<PlanDamage> {
     in_order([PLAN_DAMAGES, STORED_DAMAGES].concat())
 }
 
-/// The order of checking, in which 13 comes after 5; those of one code keep theirs.
+/// The order of checking, in which 14 comes after 3 and 13 after 5; those of one code keep theirs.
 fn in_order(mut damages: Vec<PlanDamage>) -> Vec<PlanDamage> {
-    damages.sort_by_key(|&(code, _, _)| if code == 13 { (5, 1) } else { (code, 0) });
+    damages.sort_by_key(|&(code, _, _)| match code {
+        14 => (3, 1),
+        13 => (5, 1),
+        _ => (code, 0),
+    });
     damages
 }
 
@@ -90,6 +95,18 @@ const PLAN_DAMAGES: &[PlanDamage] = &[
     (8, 1, |plan| plan.colouring[0] = 0),
     (8, 2, |plan| plan.colouring[1..].fill(u64::MAX)),
     (8, 5, |plan| plan.colouring[4] = 3),
+];
+
+/// Damage to the outside areas of sheet A.
+#[rustfmt::skip]
+const OUTSIDE_DAMAGES: &[PlanDamage] = &[
+    (14, 0, |plan| plan.outside.clear()),
+    (14, 0, |plan| plan.outside.truncate(4)),
+    (14, 0, |plan| plan.outside.push(0)),
+    (14, 0, |plan| plan.outside = vec![u64::MAX; 6]),
+    (14, 1, |plan| plan.outside[0] = 1_000_001),
+    (14, 3, |plan| plan.outside[2..].fill(u64::MAX)),
+    (14, 5, |plan| plan.outside[4] = 1 << 32),
 ];
 
 /// Damage to the flights of sheet A with flights, and to the constraint on them.

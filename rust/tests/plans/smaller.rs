@@ -14,6 +14,7 @@ impl Numbers {
         let lower_sectors = lower_number(self.sectors).map(|sectors| Numbers { sectors, ..self.clone() });
         let lower_constraints = lower(&self.constraints).map(|constraints| Numbers { constraints, ..self.clone() });
         let lower_workloads = lower(&self.workloads).map(|workloads| Numbers { workloads, ..self.clone() });
+        let lower_outside = lower(&self.outside).map(|outside| Numbers { outside, ..self.clone() });
         let lower_edges = lower(&self.edges).map(|edges| Numbers { edges, ..self.clone() });
         let lower_counts = lower(&self.counts).map(|counts| Numbers { counts, ..self.clone() });
         let lower_visits = lower(&self.visits).map(|visits| Numbers { visits, ..self.clone() });
@@ -26,6 +27,7 @@ impl Numbers {
             .chain(lower_sectors)
             .chain(lower_constraints)
             .chain(lower_workloads)
+            .chain(lower_outside)
             .chain(lower_edges)
             .chain(lower_counts)
             .chain(lower_visits)
@@ -64,7 +66,7 @@ impl Numbers {
     pub fn without_region(&self, region: u64) -> Numbers {
         let mut numbers = self.clone();
         numbers.regions = self.regions.saturating_sub(1);
-        for list in [&mut numbers.workloads, &mut numbers.colouring] {
+        for list in [&mut numbers.workloads, &mut numbers.outside, &mut numbers.colouring] {
             list.drain((region as usize - 1).min(list.len())..list.len().min(region as usize));
         }
         let kept = self.edges.chunks(3).filter(|edge| !edge[..edge.len().min(2)].contains(&region));

@@ -1,4 +1,4 @@
-//! Numbers and lists outside the documents' limits.
+//! Numbers and lists beyond the documents' limits.
 
 use super::{Numbers, Random};
 use crate::reference::*;
@@ -30,7 +30,7 @@ pub fn break_list(random: &mut Random, list: &mut Vec<u64>, ends: &[u64]) {
 }
 
 impl Numbers {
-    /// Changes one thing besides the flights for a wild one; by chance the plan may still be good after it.
+    /// Changes one thing besides outside areas and flights for a wild one; by chance the plan may still be good after it.
     pub fn break_one(&mut self, random: &mut Random) {
         let ends = [self.regions, self.sectors];
         match random.between(0, 9) {
@@ -40,6 +40,22 @@ impl Numbers {
             4 | 5 => break_list(random, &mut self.edges, &ends),
             6 | 7 => break_list(random, &mut self.constraints, &ends),
             _ => break_list(random, &mut self.colouring, &ends),
+        }
+    }
+
+    /// Makes the list of outside areas too long or too short, or some of them too large; or changes the list, after which it may still
+    /// be good.
+    pub fn break_outside(&mut self, random: &mut Random) {
+        let number = wild(random, &[AREA]);
+        let length = self.outside.len();
+        match random.between(0, 2) {
+            0 => self.outside.resize(random.pick(&[0, length.saturating_sub(1), length + 1, length + 2]), number),
+            1 => {
+                let large = random.pick(&[AREA + 1, number.max(AREA + 1)]);
+                let first = random.place(length.max(1));
+                self.outside.iter_mut().skip(first).take(random.pick(&[1, 2])).for_each(|area| *area = large);
+            }
+            _ => break_list(random, &mut self.outside, &[self.regions, AREA]),
         }
     }
 

@@ -11,12 +11,13 @@ pub struct Totals {
     pub last: u64,
 }
 
-/// The call: codes 1 to 13 in their order, then a row for each move in turn, then what the last colouring means.
+/// The call: codes 1 to 14 in their order, then a row for each move in turn, then what the last colouring means.
 #[allow(clippy::too_many_arguments)]
 pub fn call(
     regions: u64,
     sectors: u64,
     workloads: &[u64],
+    outside: &[u64],
     edges: &[u64],
     counts: &[u64],
     visits: &[u64],
@@ -27,7 +28,7 @@ pub fn call(
     verdicts: &mut [u64],
     work: &mut [u64],
 ) -> Result<Totals, Refusal> {
-    let mut plan = Plan::new(CALL_KINDS, regions, sectors, workloads, edges, counts, visits, constraints, colouring)?;
+    let mut plan = Plan::new(CALL_KINDS, regions, sectors, workloads, outside, edges, counts, visits, constraints, colouring)?;
     whole_items(9, moves, 3)?;
     demand(moves.len() as u64 / 3 <= MOVES, 9, 0)?;
     demand(rows.len() >= moves.len() / 3 * 4, 10, 0)?;

@@ -4,7 +4,10 @@ pub const REGIONS: u64 = 512;
 pub const SECTORS: u64 = 64;
 pub const WORKLOAD: u64 = 1_000_000;
 pub const EDGES: u64 = 2_048;
+
+/// The area of an edge, or of a region's face to the outside.
 pub const AREA: u64 = 1_000_000;
+
 pub const FLIGHTS: u64 = 64;
 pub const VISITS: u64 = 32;
 pub const DWELL: u64 = 86_400;

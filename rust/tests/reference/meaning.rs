@@ -33,7 +33,7 @@ impl Plan {
             components[sector] += u64::from(labels[at(region)] == region);
         }
         let cut = self.edges.iter().filter(|edge| self.sector(edge.a) != self.sector(edge.b));
-        let border = cut.map(|edge| edge.area).sum();
+        let border = cut.map(|edge| edge.area).sum::<u64>() + self.outside.iter().sum::<u64>();
         Meaning { plan: self, labels, components, sums, border, stretches: self.stretches() }
     }
 
@@ -109,11 +109,11 @@ impl Meaning<'_> {
         self.plan.constraints.iter().map(|constraint| constraint.weight * by_kind(constraint)).sum()
     }
 
-    /// The area of the region's edges that lead to another sector.
+    /// The area of the region's edges that lead to another sector, and of its face to the outside.
     fn own_border(&self, region: u64) -> u64 {
         let own = self.plan.edges.iter().filter(|edge| edge.a == region || edge.b == region);
         let cut = own.filter(|edge| self.plan.sector(edge.a) != self.plan.sector(edge.b));
-        cut.map(|edge| edge.area).sum()
+        cut.map(|edge| edge.area).sum::<u64>() + self.plan.outside[at(region)]
     }
 
     /// The sum of d over the stretches that visit the region, each stretch once.

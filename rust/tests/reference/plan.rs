@@ -1,4 +1,4 @@
-//! A plan, and codes 1 to 8 with 13 among them: what a list of numbers must be to make one.
+//! A plan, and codes 1 to 8 with 14 and 13 among them: what a list of numbers must be to make one.
 
 use super::limits::*;
 
@@ -27,11 +27,13 @@ pub struct Constraint {
     pub weight: u64,
 }
 
-/// A plan with its colouring, all within the documents' limits. Region 1 comes first in the lists; a flight is a list of visits.
+/// A plan with its colouring, all within the documents' limits. Region 1 comes first in the lists; `outside` has the areas of the
+/// regions' faces to the outside; a flight is a list of visits.
 pub struct Plan {
     pub regions: u64,
     pub sectors: u64,
     pub workloads: Vec<u64>,
+    pub outside: Vec<u64>,
     pub edges: Vec<Edge>,
     pub flights: Vec<Vec<Visit>>,
     pub constraints: Vec<Constraint>,
@@ -39,14 +41,15 @@ pub struct Plan {
 }
 
 impl Plan {
-    /// The plan of these numbers with constraints of the kinds 1 to `kinds`, or the first of codes 1 to 5, 13 and 6 to 8 that
-    /// refuses them.
+    /// The plan of these numbers with constraints of the kinds 1 to `kinds`, or the first of codes 1 to 3, 14, 4, 5, 13 and 6 to 8
+    /// that refuses them.
     #[allow(clippy::too_many_arguments)]
     pub fn new(
         kinds: u64,
         regions: u64,
         sectors: u64,
         workloads: &[u64],
+        outside: &[u64],
         edges: &[u64],
         counts: &[u64],
         visits: &[u64],
@@ -56,6 +59,7 @@ impl Plan {
         check_regions(regions)?;
         check_sectors(sectors)?;
         check_list(3, regions, workloads, |workload| workload <= WORKLOAD)?;
+        check_list(14, regions, outside, |area| area <= AREA)?;
         whole_items(4, edges, 3)?;
         check_edge_count(edges.len() as u64 / 3)?;
         check_edges(regions, edges)?;
@@ -68,6 +72,7 @@ impl Plan {
             regions,
             sectors,
             workloads: workloads.to_vec(),
+            outside: outside.to_vec(),
             edges: edges.chunks(3).map(|edge| Edge { a: edge[0], b: edge[1], area: edge[2] }).collect(),
             flights,
             constraints: constraints

@@ -73,7 +73,7 @@ fn unpack(mut bytes: &[u8], widths: &[usize]) -> Vec<u64> {
     numbers
 }
 
-/// A plan that a sheet can hold: without flights, and with constraints of the kinds 1 to 4.
+/// A plan that a sheet can hold: without outside areas and flights, and with constraints of the kinds 1 to 4.
 fn stored(
     regions: u64,
     sectors: u64,
@@ -82,7 +82,8 @@ fn stored(
     constraints: &[u64],
     colouring: &[u64],
 ) -> Result<Plan, Refusal> {
-    Plan::new(SHEET_KINDS, regions, sectors, workloads, edges, &[], &[], constraints, colouring)
+    let outside = vec![0; workloads.len()];
+    Plan::new(SHEET_KINDS, regions, sectors, workloads, &outside, edges, &[], &[], constraints, colouring)
 }
 
 /// Writing: codes 1 to 8, then 40; answers the bytes written.

@@ -16,7 +16,7 @@ pub use reading::{numbers_in, Reading};
 use std::path::PathBuf;
 pub use writing::Writing;
 
-/// The sheet laid out from these numbers but for the flights, and then changed in turn.
+/// The sheet laid out from these numbers but for outside areas and flights, and then changed in turn.
 #[derive(Clone, Debug)]
 pub struct Sheet {
     pub plan: Numbers,

@@ -113,8 +113,8 @@ pub fn numbers_in(bytes: &[u8], read: fn(&mut Memory) -> Answer) -> Result<Numbe
             let lengths = [regions, 3 * edges, 4 * constraints, regions];
             let mut lists = memory.lists.iter().zip(lengths).map(|(list, length)| list.content()[..length as usize].to_vec());
             let [workloads, edges, constraints, colouring] = std::array::from_fn(|_| lists.next().expect("four lists"));
-            let (counts, visits) = (vec![], vec![]);
-            Ok(Numbers { regions, sectors, workloads, edges, counts, visits, constraints, colouring })
+            let (outside, counts, visits) = (vec![0; workloads.len()], vec![], vec![]);
+            Ok(Numbers { regions, sectors, workloads, outside, edges, counts, visits, constraints, colouring })
         }
         [refused_by, place, ..] => Err(code(refused_by, place)),
     }

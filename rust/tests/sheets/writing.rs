@@ -7,7 +7,7 @@ use crate::library::{raw, Constraint};
 use crate::plans::{lower_number, plan, records, Numbers, Random};
 use crate::{library, reference};
 
-/// What is handed over: the numbers but for the flights, and how many bytes are lent.
+/// What is handed over: the numbers but for outside areas and flights, and how many bytes are lent.
 #[derive(Clone, Debug)]
 pub struct Writing {
     pub plan: Numbers,

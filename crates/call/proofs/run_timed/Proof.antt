@@ -7,16 +7,16 @@ use Rattle.call.proofs.run_timed.Statement.{statement}
 use Rattle.call.proofs.run_timed.Tie as tie
 
 add-starts : tie.Need-add-starts
-add-starts c = omega (arith, c .before .before .before .before .before .before .before .before .before .before .before .before .before .before .before .pre .0 .plan .limits .R, valid-flying (c .before .before .before .before .before .before .before .before .before .before .before .before .before .before .before .pre .0) .few)
+add-starts c = omega (arith, c .before .before .before .before .before .before .before .before .before .before .before .before .before .before .before .before .pre .0 .plan .limits .R, valid-flying (c .before .before .before .before .before .before .before .before .before .before .before .before .before .before .before .before .pre .0) .few)
 
 add-starts-2 : tie.Need-add-starts-2
-add-starts-2 c = omega (arith, c .before .before .before .before .before .before .before .before .before .before .before .before .before .before .before .pre .0 .plan .limits .R, valid-flying (c .before .before .before .before .before .before .before .before .before .before .before .before .before .before .before .pre .0) .few)
+add-starts-2 c = omega (arith, c .before .before .before .before .before .before .before .before .before .before .before .before .before .before .before .before .pre .0 .plan .limits .R, valid-flying (c .before .before .before .before .before .before .before .before .before .before .before .before .before .before .before .before .pre .0) .few)
 
 array-borrow-prefix-visited : tie.Need-array-borrow-prefix-visited
-array-borrow-prefix-visited c = omega (arith, c .before .before .before .before .before .before .before .before .before .before .before .before .before .before .before .pre .0 .plan .limits .R, valid-flying (c .before .before .before .before .before .before .before .before .before .before .before .before .before .before .before .pre .0) .few)
+array-borrow-prefix-visited c = omega (arith, c .before .before .before .before .before .before .before .before .before .before .before .before .before .before .before .before .pre .0 .plan .limits .R, valid-flying (c .before .before .before .before .before .before .before .before .before .before .before .before .before .before .before .before .pre .0) .few)
 
 slice-aggregate-gather-visitors : tie.Need-slice-aggregate-gather-visitors
-slice-aggregate-gather-visitors c = sym (rows-lent (c .before .before .before .before .before .before .before .before .before .before .before .before .before .before .before .before .pre .0))
+slice-aggregate-gather-visitors c = sym (rows-lent (c .before .before .before .before .before .before .before .before .before .before .before .before .before .before .before .before .before .pre .0))
 
 slice-aggregate-gather-visitors-2 : tie.Need-slice-aggregate-gather-visitors-2
 slice-aggregate-gather-visitors-2 c = search needs
@@ -25,13 +25,13 @@ slice-aggregate-gather-visitors-3 : tie.Need-slice-aggregate-gather-visitors-3
 slice-aggregate-gather-visitors-3 c = search needs
 
 gather-visitors-requires : tie.Need-gather-visitors-requires
-gather-visitors-requires c κs = let v = c .before .before .before .before .before .before .before .before .before .before .before .before .before .before .before .before .before .before .pre .0 in (valid-flying v, (v .plan .limits .R .high, (rows-lent v, (visits-fit v, refl))))
+gather-visitors-requires c κs = let v = c .before .before .before .before .before .before .before .before .before .before .before .before .before .before .before .before .before .before .before .pre .0 in (valid-flying v, (v .plan .limits .R .high, (rows-lent v, (visits-fit v, refl))))
 
 array-share-prefix-visited : tie.Need-array-share-prefix-visited
-array-share-prefix-visited c = rows-room (c .before .before .before .before .before .before .before .before .before .before .before .before .before .before .before .before .before .before .before .before .before .before .pre .0) (c .before .before .before .gather-visitors .last .1 .1 .1 .0) (c .before .before .before .gather-visitors .kept .1 .1 .1 .0)
+array-share-prefix-visited c = rows-room (c .before .before .before .before .before .before .before .before .before .before .before .before .before .before .before .before .before .before .before .before .before .before .before .pre .0) (c .before .before .before .gather-visitors .last .1 .1 .1 .0) (c .before .before .before .gather-visitors .kept .1 .1 .1 .0)
 
 slice-aggregate-judge-all : tie.Need-slice-aggregate-judge-all
-slice-aggregate-judge-all c = sym (rows-length (c .before .before .before .before .before .before .before .before .before .before .before .before .before .before .before .before .before .before .before .before .before .before .before .pre .0) (c .before .before .before .before .gather-visitors .last .1 .1 .1 .0) (c .before .before .before .before .gather-visitors .kept .1 .1 .1 .0))
+slice-aggregate-judge-all c = sym (rows-length (c .before .before .before .before .before .before .before .before .before .before .before .before .before .before .before .before .before .before .before .before .before .before .before .before .pre .0) (c .before .before .before .before .gather-visitors .last .1 .1 .1 .0) (c .before .before .before .before .gather-visitors .kept .1 .1 .1 .0))
 
 slice-aggregate-judge-all-2 : tie.Need-slice-aggregate-judge-all-2
 slice-aggregate-judge-all-2 c = search needs
@@ -41,7 +41,7 @@ slice-aggregate-judge-all-3 c = search needs
 
 judge-all-requires : tie.Need-judge-all-requires
 judge-all-requires c κs =
-    let s = c .before .before .before .before .before .before .before .before .before .before .before .before .before .before .before .before .before .before .before .before .before .before .before .before .before .before .before .before .before .before .before .pre in
+    let s = c .before .before .before .before .before .before .before .before .before .before .before .before .before .before .before .before .before .before .before .before .before .before .before .before .before .before .before .before .before .before .before .before .pre in
     let g = c .before .before .before .before .before .before .before .before .before .before .before .before .gather-visitors in
     (s .0, (s .1 .0, (s .1 .1 .0, gathered-flown (s .0) (g .last .1 .1 .1 .0) (g .kept .1 .1 .1 .0) (s .1 .1 .1) (g .ensures))))
 

@@ -9,10 +9,10 @@ enum-known-asked : tie.Need-enum-known-asked
 enum-known-asked c = search needs
 
 make-requires : tie.Need-make-requires
-make-requires c κs = let s = c .before .before .before .before .before .before .before .before .before .before .before .before .before .before .before .before .before .before .before .before .before .before .before .before .pre in (recolour-finds (s .0) (s .1 .0) (s .1 .1 .0) (c .before .before .before .before .before .before .asked .given .1), s .1 .1 .1)
+make-requires c κs = let s = c .before .before .before .before .before .before .before .before .before .before .before .before .before .before .before .before .before .before .before .before .before .before .before .before .before .pre in (recolour-finds (s .0) (s .1 .0) (s .1 .1 .0) (c .before .before .before .before .before .before .asked .given .1), s .1 .1 .1)
 
 delta-requires : tie.Need-delta-requires
-delta-requires c κs = let s = c .before .before .before .before .before .before .before .before .before .before .before .before .before .before .before .before .before .before .before .before .before .before .before .before .before .before .before .before .before .before .before .before .before .before .pre in made-small (s .0) (s .1 .0) (recolour-tries (c .before .before .before .before .before .before .before .before .before .before .before .before .before .before .before .before .asked .given .1)) (c .before .before .before .before .before .before .before .before .before .make .ensures)
+delta-requires c κs = let s = c .before .before .before .before .before .before .before .before .before .before .before .before .before .before .before .before .before .before .before .before .before .before .before .before .before .before .before .before .before .before .before .before .before .before .before .pre in made-small (s .0) (s .1 .0) (recolour-tries (c .before .before .before .before .before .before .before .before .before .before .before .before .before .before .before .before .asked .given .1)) (c .before .before .before .before .before .before .before .before .before .make .ensures)
 
 same-length : tie.Need-same-length
 same-length c = search needs
@@ -28,14 +28,14 @@ same-length-4 c = search needs
 
 returns : tie.Need-returns
 returns c =
-    let s = c .before .before .before .before .before .before .before .before .before .before .before .before .before .before .before .before .before .before .before .before .before .before .before .before .before .before .before .before .before .before .before .before .before .before .before .pre in
+    let s = c .before .before .before .before .before .before .before .before .before .before .before .before .before .before .before .before .before .before .before .before .before .before .before .before .before .before .before .before .before .before .before .before .before .before .before .before .pre in
     made-answered (s .0) (s .1 .0) (recolour-tries (c .before .before .before .before .before .before .before .before .before .before .before .before .before .before .before .before .before .asked .given .1)) (c .before .before .before .before .before .before .before .before .before .before .make .ensures) (c .before .before .before .before .before .before .before .before .before .before .before .before .before .before .before .if1 .taken) (c .delta .ensures)
 
 probe-requires : tie.Need-probe-requires
-probe-requires c κs = let s = c .before .before .before .before .before .before .before .before .before .before .before .before .before .before .before .before .before .before .before .before .before .before .before .before .pre in (recolour-finds (s .0) (s .1 .0) (s .1 .1 .0) (c .before .before .before .before .before .before .asked .given .1), s .1 .1 .1)
+probe-requires c κs = let s = c .before .before .before .before .before .before .before .before .before .before .before .before .before .before .before .before .before .before .before .before .before .before .before .before .before .pre in (recolour-finds (s .0) (s .1 .0) (s .1 .1 .0) (c .before .before .before .before .before .before .asked .given .1), s .1 .1 .1)
 
 delta-requires-2 : tie.Need-delta-requires-2
-delta-requires-2 c κs = let s = c .before .before .before .before .before .before .before .before .before .before .before .before .before .before .before .before .before .before .before .before .before .before .before .before .before .before .before .before .before .pre in probed-small (s .0) (s .1 .0) (recolour-tries (c .before .before .before .before .before .before .before .before .before .before .before .asked .given .1)) (c .before .before .before .before .probe .ensures .0)
+delta-requires-2 c κs = let s = c .before .before .before .before .before .before .before .before .before .before .before .before .before .before .before .before .before .before .before .before .before .before .before .before .before .before .before .before .before .before .pre in probed-small (s .0) (s .1 .0) (recolour-tries (c .before .before .before .before .before .before .before .before .before .before .before .asked .given .1)) (c .before .before .before .before .probe .ensures .0)
 
 same-length-5 : tie.Need-same-length-5
 same-length-5 c = search needs
@@ -51,7 +51,7 @@ same-length-8 c = search needs
 
 returns-2 : tie.Need-returns-2
 returns-2 c =
-    let s = c .before .before .before .before .before .before .before .before .before .before .before .before .before .before .before .before .before .before .before .before .before .before .before .before .before .before .before .before .before .before .pre in
+    let s = c .before .before .before .before .before .before .before .before .before .before .before .before .before .before .before .before .before .before .before .before .before .before .before .before .before .before .before .before .before .before .before .pre in
     let p = c .before .before .before .before .before .probe .ensures in
     probed-answered (s .0) (s .1 .0) (recolour-tries (c .before .before .before .before .before .before .before .before .before .before .before .before .asked .given .1)) (p .0) (c .before .before .before .before .before .before .before .before .before .before .if1 .left) (ready-left (s .0 .limits) (s .1 .0) (p .1)) (c .delta2 .ensures)
 
@@ -59,10 +59,10 @@ enum-known-asked-2 : tie.Need-enum-known-asked-2
 enum-known-asked-2 c = search needs
 
 make-requires-2 : tie.Need-make-requires-2
-make-requires-2 c κs = let s = c .before .before .before .before .before .before .before .before .before .before .before .before .before .before .before .before .before .before .before .before .before .before .before .before .pre in (exchange-finds (s .0) (s .1 .0) (s .1 .1 .0) (c .before .before .before .before .before .before .asked2 .given .1), s .1 .1 .1)
+make-requires-2 c κs = let s = c .before .before .before .before .before .before .before .before .before .before .before .before .before .before .before .before .before .before .before .before .before .before .before .before .before .pre in (exchange-finds (s .0) (s .1 .0) (s .1 .1 .0) (c .before .before .before .before .before .before .asked2 .given .1), s .1 .1 .1)
 
 delta-requires-3 : tie.Need-delta-requires-3
-delta-requires-3 c κs = let s = c .before .before .before .before .before .before .before .before .before .before .before .before .before .before .before .before .before .before .before .before .before .before .before .before .before .before .before .before .before .before .before .before .before .before .pre in made-small (s .0) (s .1 .0) (exchange-tries (c .before .before .before .before .before .before .before .before .before .before .before .before .before .before .before .before .asked2 .given .1)) (c .before .before .before .before .before .before .before .before .before .make2 .ensures)
+delta-requires-3 c κs = let s = c .before .before .before .before .before .before .before .before .before .before .before .before .before .before .before .before .before .before .before .before .before .before .before .before .before .before .before .before .before .before .before .before .before .before .before .pre in made-small (s .0) (s .1 .0) (exchange-tries (c .before .before .before .before .before .before .before .before .before .before .before .before .before .before .before .before .asked2 .given .1)) (c .before .before .before .before .before .before .before .before .before .make2 .ensures)
 
 same-length-9 : tie.Need-same-length-9
 same-length-9 c = search needs
@@ -78,14 +78,14 @@ same-length-12 c = search needs
 
 returns-3 : tie.Need-returns-3
 returns-3 c =
-    let s = c .before .before .before .before .before .before .before .before .before .before .before .before .before .before .before .before .before .before .before .before .before .before .before .before .before .before .before .before .before .before .before .before .before .before .before .pre in
+    let s = c .before .before .before .before .before .before .before .before .before .before .before .before .before .before .before .before .before .before .before .before .before .before .before .before .before .before .before .before .before .before .before .before .before .before .before .before .pre in
     made-answered (s .0) (s .1 .0) (exchange-tries (c .before .before .before .before .before .before .before .before .before .before .before .before .before .before .before .before .before .asked2 .given .1)) (c .before .before .before .before .before .before .before .before .before .before .make2 .ensures) (c .before .before .before .before .before .before .before .before .before .before .before .before .before .before .before .if2 .taken) (c .delta3 .ensures)
 
 probe-requires-2 : tie.Need-probe-requires-2
-probe-requires-2 c κs = let s = c .before .before .before .before .before .before .before .before .before .before .before .before .before .before .before .before .before .before .before .before .before .before .before .before .pre in (exchange-finds (s .0) (s .1 .0) (s .1 .1 .0) (c .before .before .before .before .before .before .asked2 .given .1), s .1 .1 .1)
+probe-requires-2 c κs = let s = c .before .before .before .before .before .before .before .before .before .before .before .before .before .before .before .before .before .before .before .before .before .before .before .before .before .pre in (exchange-finds (s .0) (s .1 .0) (s .1 .1 .0) (c .before .before .before .before .before .before .asked2 .given .1), s .1 .1 .1)
 
 delta-requires-4 : tie.Need-delta-requires-4
-delta-requires-4 c κs = let s = c .before .before .before .before .before .before .before .before .before .before .before .before .before .before .before .before .before .before .before .before .before .before .before .before .before .before .before .before .before .pre in probed-small (s .0) (s .1 .0) (exchange-tries (c .before .before .before .before .before .before .before .before .before .before .before .asked2 .given .1)) (c .before .before .before .before .probe2 .ensures .0)
+delta-requires-4 c κs = let s = c .before .before .before .before .before .before .before .before .before .before .before .before .before .before .before .before .before .before .before .before .before .before .before .before .before .before .before .before .before .before .pre in probed-small (s .0) (s .1 .0) (exchange-tries (c .before .before .before .before .before .before .before .before .before .before .before .asked2 .given .1)) (c .before .before .before .before .probe2 .ensures .0)
 
 same-length-13 : tie.Need-same-length-13
 same-length-13 c = search needs
@@ -101,7 +101,7 @@ same-length-16 c = search needs
 
 returns-4 : tie.Need-returns-4
 returns-4 c =
-    let s = c .before .before .before .before .before .before .before .before .before .before .before .before .before .before .before .before .before .before .before .before .before .before .before .before .before .before .before .before .before .before .pre in
+    let s = c .before .before .before .before .before .before .before .before .before .before .before .before .before .before .before .before .before .before .before .before .before .before .before .before .before .before .before .before .before .before .before .pre in
     let p = c .before .before .before .before .before .probe2 .ensures in
     probed-answered (s .0) (s .1 .0) (exchange-tries (c .before .before .before .before .before .before .before .before .before .before .before .before .asked2 .given .1)) (p .0) (c .before .before .before .before .before .before .before .before .before .before .if2 .left) (ready-left (s .0 .limits) (s .1 .0) (p .1)) (c .delta4 .ensures)
 
@@ -109,10 +109,10 @@ enum-known-asked-3 : tie.Need-enum-known-asked-3
 enum-known-asked-3 c = search needs
 
 region-violation-requires : tie.Need-region-violation-requires
-region-violation-requires c κs = let s = c .before .before .before .before .before .before .before .before .before .before .before .before .before .before .before .before .before .before .before .before .before .pre in (ask-finds (s .0) (s .1 .0) (s .1 .1 .0) (c .before .before .before .asked3 .given .1), s .1 .1 .1)
+region-violation-requires c κs = let s = c .before .before .before .before .before .before .before .before .before .before .before .before .before .before .before .before .before .before .before .before .before .before .pre in (ask-finds (s .0) (s .1 .0) (s .1 .1 .0) (c .before .before .before .asked3 .given .1), s .1 .1 .1)
 
 delta-requires-5 : tie.Need-delta-requires-5
-delta-requires-5 c κs = let s = c .before .before .before .before .before .before .before .before .before .before .before .before .before .before .before .before .before .before .before .before .before .before .pre in asked-small (s .0) (s .1 .0) (c .before .before .before .before .asked3 .given .1) (c .region-violation .ensures)
+delta-requires-5 c κs = let s = c .before .before .before .before .before .before .before .before .before .before .before .before .before .before .before .before .before .before .before .before .before .before .before .pre in asked-small (s .0) (s .1 .0) (c .before .before .before .before .asked3 .given .1) (c .region-violation .ensures)
 
 same-length-17 : tie.Need-same-length-17
 same-length-17 c = search needs
@@ -122,14 +122,14 @@ same-length-18 c = search needs
 
 returns-5 : tie.Need-returns-5
 returns-5 c =
-    let s = c .before .before .before .before .before .before .before .before .before .before .before .before .before .before .before .before .before .before .before .before .before .before .before .pre in
+    let s = c .before .before .before .before .before .before .before .before .before .before .before .before .before .before .before .before .before .before .before .before .before .before .before .before .pre in
     asked-answered (s .0) (s .1 .0) (c .before .before .before .before .before .asked3 .given .1) (c .before .region-violation .ensures) (c .delta5 .ensures)
 
 enum-told : tie.Need-enum-told
 enum-told c = search needs
 
 returns-6 : tie.Need-returns-6
-returns-6 c = let s = c .before .before .before .before .before .before .before .before .before .before .before .before .before .before .before .before .before .before .pre in refused-answered (s .0) (s .1 .0) (c .enum-told .given .1)
+returns-6 c = let s = c .before .before .before .before .before .before .before .before .before .before .before .before .before .before .before .before .before .before .before .pre in refused-answered (s .0) (s .1 .0) (c .enum-told .given .1)
 
 pub step-spec : {M : Type 1} → statement M
 step-spec =

@@ -5,66 +5,25 @@ use Rattle.refusals.specs.Turn.{inTurn, plan-in-turn}
 use Rattle.refusals.proofs.plan_refusal.Statement.{statement}
 use Rattle.refusals.proofs.plan_refusal.Tie as tie
 
-in-limits-requires : tie.Need-in-limits-requires
-in-limits-requires c κs = search needs
+size-refusal-requires : tie.Need-size-refusal-requires
+size-refusal-requires c κs = search needs
 
-unless-requires : tie.Need-unless-requires
-unless-requires c κs = search needs
+or-regions-requires : tie.Need-or-regions-requires
+or-regions-requires c κs = search needs
 
-in-limits-requires-2 : tie.Need-in-limits-requires-2
-in-limits-requires-2 c κs = search needs
-
-unless-requires-2 : tie.Need-unless-requires-2
-unless-requires-2 c κs = search needs
-
-or-workloads-requires : tie.Need-or-workloads-requires
-or-workloads-requires c κs = search needs
-
-or-edges-requires : tie.Need-or-edges-requires
-or-edges-requires c κs = search needs
-
-or-flights-requires : tie.Need-or-flights-requires
-or-flights-requires c κs = search needs
-
-or-constraints-requires : tie.Need-or-constraints-requires
-or-constraints-requires c κs = search needs
-
-or-colouring-requires : tie.Need-or-colouring-requires
-or-colouring-requires c κs = search needs
+or-from-edges-requires : tie.Need-or-from-edges-requires
+or-from-edges-requires c κs = search needs
 
 returns : tie.Need-returns
 unfolding planTable inTurn
 returns c =
-    let constraints = c .before in
-    let flights = constraints .before in
-    let edges = flights .before in
-    let workloads = edges .before in
-    let sectors = workloads .before in
-    let regions = sectors .before .before in
     rw (
-      c .or-colouring .ensures,
-      constraints .or-constraints .ensures,
-      flights .or-flights .ensures,
-      edges .or-edges .ensures,
-      workloads .or-workloads .ensures,
-      sectors .unless2 .ensures,
-      sectors .before .in-limits2 .ensures,
-      regions .unless .ensures,
-      regions .before .in-limits .ensures,
+      c .or-from-edges .ensures,
+      c .before .or-regions .ensures,
+      c .before .before .size-refusal .ensures,
     )
-    (plan-in-turn _ _ _ _ _ _ _ _ _)
+    (plan-in-turn _ _ _ _ _ _ _ _ _ _)
 
 pub plan-refusal-spec : {M : Type 1} → statement M
 plan-refusal-spec =
-    tie.close
-    (tie.spec
-    in-limits-requires
-    unless-requires
-    in-limits-requires-2
-    unless-requires-2
-    or-workloads-requires
-    or-edges-requires
-    or-flights-requires
-    or-constraints-requires
-    or-colouring-requires
-    returns)
+    tie.close (tie.spec size-refusal-requires or-regions-requires or-from-edges-requires returns)

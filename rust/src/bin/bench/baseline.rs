@@ -179,6 +179,7 @@ impl<'a> Engine<'a> {
         for v in 1..=plan.regions as usize {
             let c = self.sector_of[v] as usize;
             self.workload[c] += plan.workloads[v - 1];
+            self.border += plan.outside[v - 1];
             self.components[c] += (self.label[v] as usize == v) as u32;
         }
         for e in plan.edges.chunks(3) {
@@ -405,7 +406,7 @@ impl<'a> Engine<'a> {
     fn region_violation(&self, v: usize) -> u64 {
         let c = self.sector_of[v];
         let x = self.workload[c as usize];
-        let mut border = 0;
+        let mut border = self.plan.outside[v - 1];
         for i in self.row(v) {
             if self.sector_of[self.near[i] as usize] != c {
                 border += self.area[i] as u64;

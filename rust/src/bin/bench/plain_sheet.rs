@@ -170,7 +170,7 @@ pub fn read(sheet: &[u8], plan: &mut Plan) -> Result<(usize, usize), Refused> {
 /// Writes a plan's sheet to the start of the bytes; answers how many it has.
 pub fn write(plan: &Plan, sheet: &mut [u8]) -> Result<usize, Refused> {
     let Plan { regions, sectors, workloads, edges, constraints, colouring, .. } = plan;
-    plan_refusal(4, *regions, *sectors, workloads, edges, &[], &[], constraints, colouring)?;
+    plan_refusal(4, *regions, *sectors, workloads, None, edges, &[], &[], constraints, colouring)?;
     let all = sections(workloads.len(), edges.len() / 3, constraints.len() / 4);
     let bytes = BLOCK * all.iter().map(Section::blocks).sum::<usize>();
     unless(bytes <= sheet.len(), 40, 0)?;

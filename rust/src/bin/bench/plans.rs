@@ -1,5 +1,5 @@
-//! What is measured on: grids of regions numbered at random, with sectors grown from seeds, flights along their edges, and moves as
-//! a search proposes them.
+//! What is measured on: grids of regions numbered at random, with faces to the outside along their rims, sectors grown from seeds,
+//! flights along their edges, and moves as a search proposes them.
 
 /// A plan and a colouring of it, as the call takes them.
 #[derive(Clone, PartialEq)]
@@ -7,6 +7,7 @@ pub struct Plan {
     pub regions: u64,
     pub sectors: u64,
     pub workloads: Vec<u64>,
+    pub outside: Vec<u64>,
     pub edges: Vec<u64>,
     pub counts: Vec<u64>,
     pub visits: Vec<u64>,
@@ -33,7 +34,8 @@ impl Random {
     }
 }
 
-/// A grid with diagonals: `height` times `width` regions, no flights, and 16 constraints of the kinds 1 to 4.
+/// A grid with diagonals: `height` times `width` regions, those at the rim with a face to the outside, no flights, and 16 constraints
+/// of the kinds 1 to 4.
 pub fn grid(random: &mut Random, height: usize, width: usize, sectors: u64) -> Plan {
     let regions = height * width;
     let mut number: Vec<u64> = (1..=regions as u64).collect();
@@ -41,7 +43,12 @@ pub fn grid(random: &mut Random, height: usize, width: usize, sectors: u64) -> P
         number.swap(i, random.below(i as u64 + 1) as usize);
     }
     let mut edges = vec![];
+    let mut outside = vec![0; regions];
+    let mut apart = Random(random.0); // so that all else is the same with faces to the outside and without
     for (i, j) in (0..height).flat_map(|i| (0..width).map(move |j| (i, j))) {
+        if i == 0 || j == 0 || i + 1 == height || j + 1 == width {
+            outside[number[i * width + j] as usize - 1] = 1 + apart.below(1_000_000);
+        }
         for (down, right) in [(0, 1), (1, 0), (1, 1)] {
             if i + down < height && j + right < width {
                 let (a, b) = (number[i * width + j], number[(i + down) * width + j + right]);
@@ -54,6 +61,7 @@ pub fn grid(random: &mut Random, height: usize, width: usize, sectors: u64) -> P
         regions: regions as u64,
         sectors,
         workloads: (0..regions).map(|_| random.below(1_000_001)).collect(),
+        outside,
         edges: edges.concat(),
         counts: vec![],
         visits: vec![],

@@ -17,6 +17,7 @@ pub struct Call<'a> {
     pub regions: u64,
     pub sectors: u64,
     pub workloads: &'a [u64],
+    pub outside: &'a [u64],
     pub edges: &'a [u64],
     pub counts: &'a [u64],
     pub visits: &'a [u64],
@@ -47,6 +48,12 @@ fn records(list: &[u64], width: usize, low: u64, high: u64) -> bool {
     list.len().is_multiple_of(width) && within(low, (list.len() / width) as u64, high)
 }
 
+/// Code 14.
+fn outside_refusal(regions: u64, outside: &[u64]) -> Result<(), Refused> {
+    unless(outside.len() as u64 == regions, 14)?;
+    each(14, outside.iter().map(|&a| a <= 1_000_000))
+}
+
 /// Code 13.
 fn flights_refusal(regions: u64, counts: &[u64], visits: &[u64]) -> Result<(), Refused> {
     unless(counts.len() <= 64, 13)?;
@@ -63,13 +70,15 @@ fn flights_refusal(regions: u64, counts: &[u64], visits: &[u64]) -> Result<(), R
     )
 }
 
-/// Codes 1 to 8 and, after 5, code 13, with constraints of the kinds 1 to `kinds`.
+/// Codes 1 to 8 and, after 3 and 5, codes 14 and 13, with constraints of the kinds 1 to `kinds`; a plan in a sheet has no list of
+/// outside areas.
 #[allow(clippy::too_many_arguments)]
 pub fn plan_refusal(
     kinds: u64,
     regions: u64,
     sectors: u64,
     workloads: &[u64],
+    outside: Option<&[u64]>,
     edges: &[u64],
     counts: &[u64],
     visits: &[u64],
@@ -80,6 +89,7 @@ pub fn plan_refusal(
     unless(within(1, sectors, 64), 2)?;
     unless(workloads.len() as u64 == regions, 3)?;
     each(3, workloads.iter().map(|&w| w <= 1_000_000))?;
+    outside.map_or(Ok(()), |outside| outside_refusal(regions, outside))?;
     unless(records(edges, 3, 0, 2048), 4)?;
     let mut before = (0, 0);
     each(
@@ -108,8 +118,8 @@ pub fn plan_refusal(
 
 impl Call<'_> {
     fn refusal(&self) -> Result<(), Refused> {
-        let Call { regions, sectors, workloads, edges, counts, visits, constraints, .. } = *self;
-        plan_refusal(5, regions, sectors, workloads, edges, counts, visits, constraints, self.colouring)?;
+        let Call { regions, sectors, workloads, outside, edges, counts, visits, constraints, .. } = *self;
+        plan_refusal(5, regions, sectors, workloads, Some(outside), edges, counts, visits, constraints, self.colouring)?;
         unless(records(self.moves, 3, 0, 4096), 9)?;
         unless(4 * (self.moves.len() / 3) <= self.rows.len(), 10)?;
         unless(2 * (self.constraints.len() / 4) <= self.verdicts.len(), 11)?;
@@ -197,6 +207,7 @@ struct Engine<'a> {
     sectors: u64,
     whole: u64,
     workloads: &'a [u64],
+    outside: &'a [u64],
     constraints: &'a [u64],
     flights: Flights<'a>,
     table: Neighbours,
@@ -261,6 +272,11 @@ fn violation(figures: Figures, gauge: u64, q: &[u64]) -> u64 {
     }
 }
 
+fn border_of(outside: &[u64], edges: &[u64], colouring: &[u64]) -> u64 {
+    let cut = |e: &[u64]| if colouring[e[0] as usize - 1] != colouring[e[1] as usize - 1] { e[2] } else { 0 };
+    edges.chunks(3).map(cut).sum::<u64>() + outside.iter().sum::<u64>()
+}
+
 fn shifted(sum: u64, before: (u64, u64), after: (u64, u64), f: impl Fn(u64) -> u64) -> u64 {
     sum + (f(after.0) + f(after.1)) - (f(before.0) + f(before.1))
 }
@@ -273,6 +289,7 @@ impl<'a> Engine<'a> {
             sectors: call.sectors,
             whole: call.workloads.iter().sum(),
             workloads: call.workloads,
+            outside: call.outside,
             constraints: call.constraints,
             flights: Flights::gather(regions, call.counts, call.visits, call.constraints),
             table: Neighbours::gather(regions, call.edges),
@@ -297,11 +314,7 @@ impl<'a> Engine<'a> {
         engine.figures = Figures {
             components: counts.iter().sum(),
             excess: counts.iter().map(|n| n.saturating_sub(1)).sum(),
-            border: call
-                .edges
-                .chunks(3)
-                .map(|e| if engine.colouring[e[0] as usize - 1] != engine.colouring[e[1] as usize - 1] { e[2] } else { 0 })
-                .sum(),
+            border: border_of(call.outside, call.edges, engine.colouring),
             deviation: loads.iter().map(|x| (engine.sectors * x).abs_diff(engine.whole)).sum(),
         };
         for (gauge, q) in engine.gauges.iter_mut().zip(engine.constraints.chunks(4)) {
@@ -568,7 +581,7 @@ impl<'a> Engine<'a> {
         let at = self.workloads.len() + own as usize - 1;
         let workload = self.work[at + self.sectors as usize];
         let excess = self.work[at].saturating_sub(1);
-        let mut border = 0;
+        let mut border = self.outside[v - 1];
         for j in self.table.row(v) {
             border += if self.colouring[self.table.near[j] as usize - 1] == own { 0 } else { self.table.areas[j] };
         }

@@ -15,6 +15,7 @@ fn empty() -> Plan {
         regions: 0,
         sectors: 0,
         workloads: vec![0; MOST_REGIONS],
+        outside: vec![],
         edges: vec![0; 3 * MOST_EDGES],
         counts: vec![],
         visits: vec![],

@@ -11,8 +11,8 @@ use Rattle.call.proofs.turns.all_moves.Statement.{statement}
 use Rattle.call.proofs.turns.all_moves.Tie as tie
 
 abbrev Inv-loop : tie.InvT-loop
-Inv-loop sectors whole workloads edges counts visits constraints start near areas timed visited flights firsts moves colouring₀ work₀ gauges₀ queue₀ rows₀ n standing₀ k₀ colouring work gauges queue rows standing k =
-    Taken (planOf (length workloads) sectors workloads edges counts visits constraints) moves colouring₀ work₀ rows₀ k colouring work gauges standing rows
+Inv-loop sectors whole workloads outside edges counts visits constraints start near areas timed visited flights firsts moves colouring₀ work₀ gauges₀ queue₀ rows₀ n standing₀ k₀ colouring work gauges queue rows standing k =
+    Taken (planOf (length workloads) sectors workloads outside edges counts visits constraints) moves colouring₀ work₀ rows₀ k colouring work gauges standing rows
     × (length colouring ≡ length colouring₀)
     × (length work ≡ length work₀)
     × (length gauges ≡ length gauges₀)
@@ -20,15 +20,15 @@ Inv-loop sectors whole workloads edges counts visits constraints start near area
     × (length rows ≡ length rows₀)
 
 abbrev μ-loop : tie.MeasureT-loop
-μ-loop sectors whole workloads edges counts visits constraints start near areas timed visited flights firsts moves colouring₀ work₀ gauges₀ queue₀ rows₀ n standing₀ k₀ colouring work gauges queue rows standing k = n - k
+μ-loop sectors whole workloads outside edges counts visits constraints start near areas timed visited flights firsts moves colouring₀ work₀ gauges₀ queue₀ rows₀ n standing₀ k₀ colouring work gauges queue rows standing k = n - k
 
 -- from inside the loop to where all began
 abbrev began : tie.In-loop Inv-loop μ-loop → tie.Start Inv-loop μ-loop
-began c = c .before .before .before .before .before .before .before .before .before .before .before .before .before .before .before .before .before .before .before
+began c = c .before .before .before .before .before .before .before .before .before .before .before .before .before .before .before .before .before .before .before .before
 
 loop-holds : tie.Need-loop-holds Inv-loop μ-loop
 loop-holds c =
-    let s = c .before .before .before .before .before .before .before .before .before .before .before .before .before .before .before .before .before in
+    let s = c .before .before .before .before .before .before .before .before .before .before .before .before .before .before .before .before .before .before in
     (taken-start (s .pre .1 .0) (s .pre .1 .1 .0), refl, refl, refl, refl, refl)
 
 turn-requires : tie.Need-turn-requires Inv-loop μ-loop
@@ -41,7 +41,7 @@ turn-requires c κs =
 add-k : tie.Need-add-k Inv-loop μ-loop
 add-k c =
     let l = c .before .before .before .before .before .before .before .before .before .before .before .before .before .before .before in
-    omega (arith, l .loop-test .taken, began l .good .1 .1 .1 .1 .1 .1 .1 .1 .1 .1 .1 .1 .1 .1 .0)
+    omega (arith, l .loop-test .taken, began l .good .1 .1 .1 .1 .1 .1 .1 .1 .1 .1 .1 .1 .1 .1 .1 .0)
 
 loop-less : tie.Need-loop-less Inv-loop μ-loop
 loop-less c = search needs

@@ -30,25 +30,25 @@ slice-read-to : tie.Need-slice-read-to
 slice-read-to c = search needs
 
 returns : tie.Need-returns
-returns c = alike-remade (c .before .before .before .before .before .before .before .before .before .before .before .before .before .before .before .before .before .before .before .pre .0) (c .if1 .taken)
+returns c = alike-remade (c .before .before .before .before .before .before .before .before .before .before .before .before .before .before .before .before .before .before .before .before .pre .0) (c .if1 .taken)
 
 sides-in-requires : tie.Need-sides-in-requires
-sides-in-requires c κs = let k = c .before .before .before .before .before .before .before .before .before .before .before .before .before .before .before .before .before .before .before .before .pre .0 in turning-placed (swapping-first (exchanging-swapping k (c .before .if1 .left))) (exchanging-kept k)
+sides-in-requires c κs = let k = c .before .before .before .before .before .before .before .before .before .before .before .before .before .before .before .before .before .before .before .before .before .pre .0 in turning-placed (swapping-first (exchanging-swapping k (c .before .if1 .left))) (exchanging-kept k)
 
 slice-relend-prefix-turn-both : tie.Need-slice-relend-prefix-turn-both
-slice-relend-prefix-turn-both c = omega (arith, c .before .before .before .before .before .before .before .before .before .before .before .before .before .before .before .before .before .before .before .before .before .before .pre .0 .ready .room)
+slice-relend-prefix-turn-both c = omega (arith, c .before .before .before .before .before .before .before .before .before .before .before .before .before .before .before .before .before .before .before .before .before .before .before .pre .0 .ready .room)
 
 slice-aggregate-turn-both : tie.Need-slice-aggregate-turn-both
-slice-aggregate-turn-both c = let s = c .before .before .before .before .before .before .before .before .before .before .before .before .before .before .before .before .before .before .before .before .before .before .before in sym (length-take-le _ (s .args .work .now) (omega (arith, s .pre .0 .ready .room)))
+slice-aggregate-turn-both c = let s = c .before .before .before .before .before .before .before .before .before .before .before .before .before .before .before .before .before .before .before .before .before .before .before .before in sym (length-take-le _ (s .args .work .now) (omega (arith, s .pre .0 .ready .room)))
 
 turn-both-requires : tie.Need-turn-both-requires
 turn-both-requires c κs =
-    let s = c .before .before .before .before .before .before .before .before .before .before .before .before .before .before .before .before .before .before .before .before .before .before .before .before .pre in
+    let s = c .before .before .before .before .before .before .before .before .before .before .before .before .before .before .before .before .before .before .before .before .before .before .before .before .before .pre in
     let t = exchanging-swapping (s .0) (c .before .before .before .before .before .if1 .left) in
     (t, (turning-sides (swapping-first (t)) (exchanging-kept (s .0)) (c .before .before .before .sides-in .ensures), (kept-labels (exchanging-kept (s .0)), s .1)))
 
 settle-requires : tie.Need-settle-requires
-settle-requires c κs = let k = c .before .before .before .before .before .before .before .before .before .before .before .before .before .before .before .before .before .before .before .before .before .before .before .before .before .before .before .before .before .before .before .before .before .before .pre .0 in followed-settling (k .setting) (k .ready) (c .before .before .before .before .before .before .before .before .before .turn-both .ensures)
+settle-requires c κs = let k = c .before .before .before .before .before .before .before .before .before .before .before .before .before .before .before .before .before .before .before .before .before .before .before .before .before .before .before .before .before .before .before .before .before .before .before .pre .0 in followed-settling (k .setting) (k .ready) (c .before .before .before .before .before .before .before .before .before .turn-both .ensures)
 
 same-length : tie.Need-same-length
 same-length c = search needs
@@ -64,7 +64,7 @@ same-length-4 c = search needs
 
 returns-2 : tie.Need-returns-2
 returns-2 c =
-    let k = c .before .before .before .before .before .before .before .before .before .before .before .before .before .before .before .before .before .before .before .before .before .before .before .before .before .before .before .before .before .before .before .before .before .before .before .before .before .before .before .pre .0 in
+    let k = c .before .before .before .before .before .before .before .before .before .before .before .before .before .before .before .before .before .before .before .before .before .before .before .before .before .before .before .before .before .before .before .before .before .before .before .before .before .before .before .before .pre .0 in
     let s = c .before .before .before .before .settle .ensures in
     followed-remade (k .setting) (k .ready) (c .before .before .before .before .before .before .before .before .before .before .before .before .before .before .turn-both .ensures) (s .0) (s .1)
 

@@ -25,17 +25,17 @@ slice-read-other : tie.Need-slice-read-other
 slice-read-other c = search needs
 
 returns : tie.Need-returns
-returns c = (alike-total (c .before .before .before .before .before .before .before .before .before .before .before .before .before .before .before .before .before .before .before .pre .0) (c .if1 .taken), refl)
+returns c = (alike-total (c .before .before .before .before .before .before .before .before .before .before .before .before .before .before .before .before .before .before .before .before .pre .0) (c .if1 .taken), refl)
 
 change-both-requires : tie.Need-change-both-requires
-change-both-requires c κs = let s = c .before .before .before .before .before .before .before .before .before .before .before .before .before .before .before .before .before .before .before .before .before .pre in (exchanging-swapping (s .0) (c .before .before .if1 .left), (exchanging-kept (s .0), s .1))
+change-both-requires c κs = let s = c .before .before .before .before .before .before .before .before .before .before .before .before .before .before .before .before .before .before .before .before .before .before .pre in (exchanging-swapping (s .0) (c .before .before .if1 .left), (exchanging-kept (s .0), s .1))
 
 figures-after-requires : tie.Need-figures-after-requires
-figures-after-requires c κs = let k = c .before .before .before .before .before .before .before .before .before .before .before .before .before .before .before .before .before .before .before .before .before .before .before .before .before .before .pre .0 in changing-shifting (ready-changing (k .setting) (k .ready) (c .before .before .before .before .change-both .ensures .0))
+figures-after-requires c κs = let k = c .before .before .before .before .before .before .before .before .before .before .before .before .before .before .before .before .before .before .before .before .before .before .before .before .before .before .before .pre .0 in changing-shifting (ready-changing (k .setting) (k .ready) (c .before .before .before .before .change-both .ensures .0))
 
 total-after-requires : tie.Need-total-after-requires
 total-after-requires c κs =
-    let k = c .before .before .before .before .before .before .before .before .before .before .before .before .before .before .before .before .before .before .before .before .before .before .before .before .before .before .before .pre .0 in
+    let k = c .before .before .before .before .before .before .before .before .before .before .before .before .before .before .before .before .before .before .before .before .before .before .before .before .before .before .before .before .pre .0 in
     changing-totalling (ready-changing (k .setting) (k .ready) (c .before .before .before .before .before .change-both .ensures .0)) (c .figures-after .ensures) _ refl
 
 same-length : tie.Need-same-length
@@ -46,7 +46,7 @@ same-length-2 c = search needs
 
 returns-2 : tie.Need-returns-2
 returns-2 c =
-    let k = c .before .before .before .before .before .before .before .before .before .before .before .before .before .before .before .before .before .before .before .before .before .before .before .before .before .before .before .before .pre .0 in
+    let k = c .before .before .before .before .before .before .before .before .before .before .before .before .before .before .before .before .before .before .before .before .before .before .before .before .before .before .before .before .before .pre .0 in
     let t = c .before .before .before .before .before .before .change-both .ensures in
     (total-changed (ready-changing (k .setting) (k .ready) (t .0)) (c .before .figures-after .ensures) _ refl (c .total-after .ensures), t .1)
 

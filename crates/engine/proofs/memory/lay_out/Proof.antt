@@ -9,7 +9,7 @@ use Rattle.engine.proofs.memory.lay_out.Tie as tie
 
 -- from where the regions are labelled to where all began
 abbrev began : tie.After-label-all → tie.Start
-began c = c .before .before .before .before .before .before .before .before .before .before .before .before .before .before
+began c = c .before .before .before .before .before .before .before .before .before .before .before .before .before .before .before
 
 add-counts-end : tie.Need-add-counts-end
 add-counts-end c = search needs
@@ -21,10 +21,10 @@ slice-relend-prefix-label-all : tie.Need-slice-relend-prefix-label-all
 slice-relend-prefix-label-all c = search needs
 
 slice-aggregate-label-all : tie.Need-slice-aggregate-label-all
-slice-aggregate-label-all c = sym (blank-front (c .before .before .before .before .before .before .before .before .before .before .before .before .pre))
+slice-aggregate-label-all c = sym (blank-front (c .before .before .before .before .before .before .before .before .before .before .before .before .before .pre))
 
 label-all-requires : tie.Need-label-all-requires
-label-all-requires c κs = blank-labellable (c .before .before .before .before .before .before .before .before .before .before .before .before .before .pre)
+label-all-requires c κs = blank-labellable (c .before .before .before .before .before .before .before .before .before .before .before .before .before .before .pre)
 
 slice-reshare-prefix-copy : tie.Need-slice-reshare-prefix-copy
 slice-reshare-prefix-copy c = search needs
@@ -68,7 +68,7 @@ tally-components-requires c κs =
     blank-components (began l .pre) (l .label-all .last .1 .1 .1 .1 .0) (l .label-all .kept .1 .1 .1 .1 .0) (l .label-all .ensures .0) (copied .last .1 .0) (length-take-le _ (copied .last .1 .0) (omega (arith, copied .kept .1 .0, began l .pre .limits .R)))
 
 mul-tally-workloads : tie.Need-mul-tally-workloads
-mul-tally-workloads c = omega (arith, c .before .before .before .before .before .before .before .before .before .before .before .before .before .before .before .before .before .before .before .before .before .before .before .before .before .before .before .before .before .before .before .pre .limits)
+mul-tally-workloads c = omega (arith, c .before .before .before .before .before .before .before .before .before .before .before .before .before .before .before .before .before .before .before .before .before .before .before .before .before .before .before .before .before .before .before .before .pre .limits)
 
 sub-tally-workloads : tie.Need-sub-tally-workloads
 sub-tally-workloads c = search needs

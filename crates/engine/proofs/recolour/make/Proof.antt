@@ -20,25 +20,25 @@ slice-read-own : tie.Need-slice-read-own
 slice-read-own c = search needs
 
 returns : tie.Need-returns
-returns c = still-remade (c .before .before .before .before .before .before .before .before .before .before .before .before .before .before .before .before .before .before .pre .0) (c .if1 .taken)
+returns c = still-remade (c .before .before .before .before .before .before .before .before .before .before .before .before .before .before .before .before .before .before .before .pre .0) (c .if1 .taken)
 
 sides-in-requires : tie.Need-sides-in-requires
-sides-in-requires c κs = let k = c .before .before .before .before .before .before .before .before .before .before .before .before .before .before .before .before .before .before .before .pre .0 in turning-placed (recolouring-turning k (c .before .if1 .left)) (recolouring-kept k)
+sides-in-requires c κs = let k = c .before .before .before .before .before .before .before .before .before .before .before .before .before .before .before .before .before .before .before .before .pre .0 in turning-placed (recolouring-turning k (c .before .if1 .left)) (recolouring-kept k)
 
 slice-relend-prefix-turn : tie.Need-slice-relend-prefix-turn
-slice-relend-prefix-turn c = omega (arith, c .before .before .before .before .before .before .before .before .before .before .before .before .before .before .before .before .before .before .before .before .before .pre .0 .ready .room)
+slice-relend-prefix-turn c = omega (arith, c .before .before .before .before .before .before .before .before .before .before .before .before .before .before .before .before .before .before .before .before .before .before .pre .0 .ready .room)
 
 slice-aggregate-turn : tie.Need-slice-aggregate-turn
-slice-aggregate-turn c = let s = c .before .before .before .before .before .before .before .before .before .before .before .before .before .before .before .before .before .before .before .before .before .before in sym (length-take-le _ (s .args .work .now) (omega (arith, s .pre .0 .ready .room)))
+slice-aggregate-turn c = let s = c .before .before .before .before .before .before .before .before .before .before .before .before .before .before .before .before .before .before .before .before .before .before .before in sym (length-take-le _ (s .args .work .now) (omega (arith, s .pre .0 .ready .room)))
 
 turn-requires : tie.Need-turn-requires
 turn-requires c κs =
-    let s = c .before .before .before .before .before .before .before .before .before .before .before .before .before .before .before .before .before .before .before .before .before .before .before .pre in
+    let s = c .before .before .before .before .before .before .before .before .before .before .before .before .before .before .before .before .before .before .before .before .before .before .before .before .pre in
     let t = recolouring-turning (s .0) (c .before .before .before .before .before .if1 .left) in
     (t, (turning-sides t (recolouring-kept (s .0)) (c .before .before .before .sides-in .ensures), (kept-labels (recolouring-kept (s .0)), s .1)))
 
 settle-requires : tie.Need-settle-requires
-settle-requires c κs = let k = c .before .before .before .before .before .before .before .before .before .before .before .before .before .before .before .before .before .before .before .before .before .before .before .before .before .before .before .before .before .before .before .before .before .pre .0 in followed-settling (k .setting) (k .ready) (c .before .before .before .before .before .before .before .before .before .turn .ensures .0)
+settle-requires c κs = let k = c .before .before .before .before .before .before .before .before .before .before .before .before .before .before .before .before .before .before .before .before .before .before .before .before .before .before .before .before .before .before .before .before .before .before .pre .0 in followed-settling (k .setting) (k .ready) (c .before .before .before .before .before .before .before .before .before .turn .ensures .0)
 
 same-length : tie.Need-same-length
 same-length c = search needs
@@ -54,7 +54,7 @@ same-length-4 c = search needs
 
 returns-2 : tie.Need-returns-2
 returns-2 c =
-    let k = c .before .before .before .before .before .before .before .before .before .before .before .before .before .before .before .before .before .before .before .before .before .before .before .before .before .before .before .before .before .before .before .before .before .before .before .before .before .before .pre .0 in
+    let k = c .before .before .before .before .before .before .before .before .before .before .before .before .before .before .before .before .before .before .before .before .before .before .before .before .before .before .before .before .before .before .before .before .before .before .before .before .before .before .before .pre .0 in
     let s = c .before .before .before .before .settle .ensures in
     followed-remade (k .setting) (k .ready) (c .before .before .before .before .before .before .before .before .before .before .before .before .before .before .turn .ensures .0) (s .0) (s .1)
 

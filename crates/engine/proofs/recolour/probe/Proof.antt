@@ -16,17 +16,17 @@ slice-read-own : tie.Need-slice-read-own
 slice-read-own c = search needs
 
 returns : tie.Need-returns
-returns c = (still-total (c .before .before .before .before .before .before .before .before .before .before .before .before .before .before .before .before .before .before .pre .0) (c .if1 .taken), refl)
+returns c = (still-total (c .before .before .before .before .before .before .before .before .before .before .before .before .before .before .before .before .before .before .before .pre .0) (c .if1 .taken), refl)
 
 change-at-requires : tie.Need-change-at-requires
-change-at-requires c κs = let s = c .before .before .before .before .before .before .before .before .before .before .before .before .before .before .before .before .before .before .before .before .pre in (recolouring-turning (s .0) (c .before .before .if1 .left), (recolouring-kept (s .0), s .1))
+change-at-requires c κs = let s = c .before .before .before .before .before .before .before .before .before .before .before .before .before .before .before .before .before .before .before .before .before .pre in (recolouring-turning (s .0) (c .before .before .if1 .left), (recolouring-kept (s .0), s .1))
 
 figures-after-requires : tie.Need-figures-after-requires
-figures-after-requires c κs = let k = c .before .before .before .before .before .before .before .before .before .before .before .before .before .before .before .before .before .before .before .before .before .before .before .before .before .pre .0 in changing-shifting (ready-changing (k .setting) (k .ready) (c .before .before .before .before .change-at .ensures .0 .changed))
+figures-after-requires c κs = let k = c .before .before .before .before .before .before .before .before .before .before .before .before .before .before .before .before .before .before .before .before .before .before .before .before .before .before .pre .0 in changing-shifting (ready-changing (k .setting) (k .ready) (c .before .before .before .before .change-at .ensures .0 .changed))
 
 total-after-requires : tie.Need-total-after-requires
 total-after-requires c κs =
-    let k = c .before .before .before .before .before .before .before .before .before .before .before .before .before .before .before .before .before .before .before .before .before .before .before .before .before .before .pre .0 in
+    let k = c .before .before .before .before .before .before .before .before .before .before .before .before .before .before .before .before .before .before .before .before .before .before .before .before .before .before .before .pre .0 in
     changing-totalling (ready-changing (k .setting) (k .ready) (c .before .before .before .before .before .change-at .ensures .0 .changed)) (c .figures-after .ensures) _ refl
 
 same-length : tie.Need-same-length
@@ -37,7 +37,7 @@ same-length-2 c = search needs
 
 returns-2 : tie.Need-returns-2
 returns-2 c =
-    let k = c .before .before .before .before .before .before .before .before .before .before .before .before .before .before .before .before .before .before .before .before .before .before .before .before .before .before .before .pre .0 in
+    let k = c .before .before .before .before .before .before .before .before .before .before .before .before .before .before .before .before .before .before .before .before .before .before .before .before .before .before .before .before .pre .0 in
     let t = c .before .before .before .before .before .before .change-at .ensures in
     (total-changed (ready-changing (k .setting) (k .ready) (t .0 .changed)) (c .before .figures-after .ensures) _ refl (c .total-after .ensures), t .1)
 

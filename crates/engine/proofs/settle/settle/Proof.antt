@@ -7,13 +7,13 @@ use Rattle.engine.proofs.settle.settle.Statement.{statement}
 use Rattle.engine.proofs.settle.settle.Tie as tie
 
 figures-after-requires : tie.Need-figures-after-requires
-figures-after-requires c κs = changing-shifting (c .before .before .before .before .before .before .before .before .pre .changing)
+figures-after-requires c κs = changing-shifting (c .before .before .before .before .before .before .before .before .before .pre .changing)
 
 total-after-requires : tie.Need-total-after-requires
-total-after-requires c κs = changing-totalling (c .before .before .before .before .before .before .before .before .before .before .pre .changing) (c .before .figures-after .ensures) _ refl
+total-after-requires c κs = changing-totalling (c .before .before .before .before .before .before .before .before .before .before .before .pre .changing) (c .before .figures-after .ensures) _ refl
 
 shift-gauges-requires : tie.Need-shift-gauges-requires
-shift-gauges-requires c κs = changing-gauges (c .before .before .before .before .before .before .before .before .before .before .before .before .pre .changing) _ refl
+shift-gauges-requires c κs = changing-gauges (c .before .before .before .before .before .before .before .before .before .before .before .before .before .pre .changing) _ refl
 
 put-sides-requires : tie.Need-put-sides-requires
 put-sides-requires c κs = search needs
@@ -26,7 +26,7 @@ same-length-2 c = search needs
 
 returns : tie.Need-returns
 returns c =
-    let k = c .before .before .before .before .before .before .before .before .before .before .before .before .before .before .before .before .before .before .before .pre in (
+    let k = c .before .before .before .before .before .before .before .before .before .before .before .before .before .before .before .before .before .before .before .before .pre in (
       settling-left k (c .before .before .put-sides .ensures) (gauges-changed (k .changing) _ refl (c .before .before .before .before .before .before .shift-gauges .ensures)),
       standing-changed (k .changing) (c .before .before .before .before .before .before .before .before .before .before .figures-after .ensures) _ refl (c .before .before .before .before .before .before .before .before .total-after .ensures),
     )

@@ -14,13 +14,13 @@ shared-slice-read-workload : tie.Need-shared-slice-read-workload
 shared-slice-read-workload c = search needs
 
 look-anew-requires : tie.Need-look-anew-requires
-look-anew-requires c κs = turning-looking (c .before .before .before .before .before .before .before .before .before .before .before .before .before .before .before .before .before .pre .0)
+look-anew-requires c κs = turning-looking (c .before .before .before .before .before .before .before .before .before .before .before .before .before .before .before .before .before .before .pre .0)
 
 swing-at-requires : tie.Need-swing-at-requires
-swing-at-requires c κs = let s = c .before .before .before .before .before .before .before .before .before .before .before .before .before .before .before .before .before .before .before .before .before .before .before .pre in turning-pricing (s .0) (s .1 .1) (c .before .before .before .before .before .look-anew .ensures .1)
+swing-at-requires c κs = let s = c .before .before .before .before .before .before .before .before .before .before .before .before .before .before .before .before .before .before .before .before .before .before .before .before .pre in turning-pricing (s .0) (s .1 .1) (c .before .before .before .before .before .look-anew .ensures .1)
 
 change-of-requires : tie.Need-change-of-requires
-change-of-requires c κs = let s = c .before .before .before .before .before .before .before .before .before .before .before .before .before .before .before .before .before .before .before .before .before .before .before .before .pre in turning-movable (s .0) (s .1 .0) (c .before .before .before .before .before .before .look-anew .ensures .0)
+change-of-requires c κs = let s = c .before .before .before .before .before .before .before .before .before .before .before .before .before .before .before .before .before .before .before .before .before .before .before .before .before .pre in turning-movable (s .0) (s .1 .0) (c .before .before .before .before .before .before .look-anew .ensures .0)
 
 same-length : tie.Need-same-length
 same-length c = search needs
@@ -30,7 +30,7 @@ same-length-2 c = search needs
 
 returns : tie.Need-returns
 returns c =
-    let s = c .before .before .before .before .before .before .before .before .before .before .before .before .before .before .before .before .before .before .before .before .before .before .before .before .before .pre in
+    let s = c .before .before .before .before .before .before .before .before .before .before .before .before .before .before .before .before .before .before .before .before .before .before .before .before .before .before .pre in
     let look = c .before .before .before .before .before .before .before .look-anew .ensures in
     let costs = turning-costs (s .0) (s .1 .1) (look .1) (c .before .swing-at .ensures) in
     (turning-turns (s .0) (s .1 .0) (look .0) costs (c .change-of .ensures), look .1)

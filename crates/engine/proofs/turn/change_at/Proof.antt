@@ -18,7 +18,7 @@ slice-read-sides-in : tie.Need-slice-read-sides-in
 slice-read-sides-in c = search needs
 
 sides-in-requires : tie.Need-sides-in-requires
-sides-in-requires c κs = let s = c .before .before .before .before .before .before .before .before .before .before .before .before .before .before .before .before .pre in turning-placed (s .0) (s .1 .0)
+sides-in-requires c κs = let s = c .before .before .before .before .before .before .before .before .before .before .before .before .before .before .before .before .before .pre in turning-placed (s .0) (s .1 .0)
 
 sub-workload : tie.Need-sub-workload
 sub-workload c = search needs
@@ -30,17 +30,17 @@ shared-slice-read-workload : tie.Need-shared-slice-read-workload
 shared-slice-read-workload c = search needs
 
 slice-aggregate-look-at : tie.Need-slice-aggregate-look-at
-slice-aggregate-look-at c = sym (length-take-le _ (c .before .before .before .before .before .before .before .before .before .before .before .before .before .before .before .before .before .before .before .args .work .now) (omega (arith, c .before .before .before .before .before .before .before .before .before .before .before .before .before .before .before .before .before .before .before .pre .1 .0 .room)))
+slice-aggregate-look-at c = sym (length-take-le _ (c .before .before .before .before .before .before .before .before .before .before .before .before .before .before .before .before .before .before .before .before .args .work .now) (omega (arith, c .before .before .before .before .before .before .before .before .before .before .before .before .before .before .before .before .before .before .before .before .pre .1 .0 .room)))
 
 look-at-requires : tie.Need-look-at-requires
-look-at-requires c κs = let s = c .before .before .before .before .before .before .before .before .before .before .before .before .before .before .before .before .before .before .before .before .before .pre in (turning-looking (s .0), kept-labels (s .1 .0))
+look-at-requires c κs = let s = c .before .before .before .before .before .before .before .before .before .before .before .before .before .before .before .before .before .before .before .before .before .before .pre in (turning-looking (s .0), kept-labels (s .1 .0))
 
 swing-at-requires : tie.Need-swing-at-requires
-swing-at-requires c κs = let s = c .before .before .before .before .before .before .before .before .before .before .before .before .before .before .before .before .before .before .before .before .before .before .before .before .before .before .before .pre in turning-pricing (s .0) (s .1 .1) (c .before .before .before .before .before .look-at .ensures .1)
+swing-at-requires c κs = let s = c .before .before .before .before .before .before .before .before .before .before .before .before .before .before .before .before .before .before .before .before .before .before .before .before .before .before .before .before .pre in turning-pricing (s .0) (s .1 .1) (c .before .before .before .before .before .look-at .ensures .1)
 
 change-of-requires : tie.Need-change-of-requires
 change-of-requires c κs =
-    let s = c .before .before .before .before .before .before .before .before .before .before .before .before .before .before .before .before .before .before .before .before .before .before .before .before .before .before .before .before .pre in
+    let s = c .before .before .before .before .before .before .before .before .before .before .before .before .before .before .before .before .before .before .before .before .before .before .before .before .before .before .before .before .before .pre in
     turning-movable (s .0) (turning-sides (s .0) (s .1 .0) (c .before .before .before .before .before .before .before .before .before .before .before .sides-in .ensures)) (c .before .before .before .before .before .before .look-at .ensures .0)
 
 same-length : tie.Need-same-length
@@ -51,7 +51,7 @@ same-length-2 c = search needs
 
 returns : tie.Need-returns
 returns c =
-    let s = c .before .before .before .before .before .before .before .before .before .before .before .before .before .before .before .before .before .before .before .before .before .before .before .before .before .before .before .before .before .pre in
+    let s = c .before .before .before .before .before .before .before .before .before .before .before .before .before .before .before .before .before .before .before .before .before .before .before .before .before .before .before .before .before .before .pre in
     let look = c .before .before .before .before .before .before .before .look-at .ensures in
     let costs = turning-costs (s .0) (s .1 .1) (look .1) (c .before .swing-at .ensures) in
     (turning-turns (s .0) (turning-sides (s .0) (s .1 .0) (c .before .before .before .before .before .before .before .before .before .before .before .before .sides-in .ensures)) (look .0) costs (c .change-of .ensures), look .1)

@@ -16,20 +16,20 @@ shared-slice-read-workload : tie.Need-shared-slice-read-workload
 shared-slice-read-workload c = search needs
 
 meet-requires : tie.Need-meet-requires
-meet-requires c κs = let s = c .before .before .before .before .before .before .before .before .before .before .before .before .before .before .before .before .before .before .before .pre in (turning-looking (s .0), s .1 .1 .0)
+meet-requires c κs = let s = c .before .before .before .before .before .before .before .before .before .before .before .before .before .before .before .before .before .before .before .before .pre in (turning-looking (s .0), s .1 .1 .0)
 
 swing-at-requires : tie.Need-swing-at-requires
-swing-at-requires c κs = let s = c .before .before .before .before .before .before .before .before .before .before .before .before .before .before .before .before .before .before .before .before .before .before .before .before .before .pre in turning-pricing (s .0) (s .1 .1 .1) (c .before .before .before .before .before .meet .ensures .1)
+swing-at-requires c κs = let s = c .before .before .before .before .before .before .before .before .before .before .before .before .before .before .before .before .before .before .before .before .before .before .before .before .before .before .pre in turning-pricing (s .0) (s .1 .1 .1) (c .before .before .before .before .before .meet .ensures .1)
 
 recolour-requires : tie.Need-recolour-requires
 recolour-requires c κs =
-    let s = c .before .before .before .before .before .before .before .before .before .before .before .before .before .before .before .before .before .before .before .before .before .before .before .before .before .before .before .before .before .pre in
+    let s = c .before .before .before .before .before .before .before .before .before .before .before .before .before .before .before .before .before .before .before .before .before .before .before .before .before .before .before .before .before .before .pre in
     let m = c .before .before .before .before .before .before .before .before .before .meet in
     turning-labels (s .0) (m .ensures .1) (m .kept .1 .1 .1 .1 .1 .1 .0) (s .1 .1 .0)
 
 change-of-requires : tie.Need-change-of-requires
 change-of-requires c κs =
-    let s = c .before .before .before .before .before .before .before .before .before .before .before .before .before .before .before .before .before .before .before .before .before .before .before .before .before .before .before .before .before .before .before .before .before .before .before .before .pre in
+    let s = c .before .before .before .before .before .before .before .before .before .before .before .before .before .before .before .before .before .before .before .before .before .before .before .before .before .before .before .before .before .before .before .before .before .before .before .before .before .pre in
     let m = c .before .before .before .before .before .before .before .before .before .before .before .before .before .before .before .before .meet .ensures in
     turning-movable (s .0) (s .1 .0) (looked-both (m .1) (m .0) (c .before .before .before .before .before .before .recolour .ensures .1 .1 .1))
 
@@ -44,7 +44,7 @@ same-length-3 c = c .before .before .before .before .before .before .before .rec
 
 returns : tie.Need-returns
 returns c =
-    let s = c .before .before .before .before .before .before .before .before .before .before .before .before .before .before .before .before .before .before .before .before .before .before .before .before .before .before .before .before .before .before .before .before .before .before .before .before .before .pre in
+    let s = c .before .before .before .before .before .before .before .before .before .before .before .before .before .before .before .before .before .before .before .before .before .before .before .before .before .before .before .before .before .before .before .before .before .before .before .before .before .before .pre in
     let m = c .before .before .before .before .before .before .before .before .before .before .before .before .before .before .before .before .before .meet .ensures in
     let n = c .before .before .before .before .before .before .before .recolour .ensures in
     let costs = turning-costs (s .0) (s .1 .1 .1) (m .1) (c .before .before .before .before .before .before .before .before .before .before .before .swing-at .ensures) in

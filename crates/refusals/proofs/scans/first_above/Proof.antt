@@ -4,16 +4,16 @@ use mathlib.Core.Path.{refl, sym}
 use borrow.Author.Tests.{le-leb, lt-leb}
 use lib.ListN.{length}
 use borrow.Author.Needs.{needs}
-use Rattle.refusals.specs.Table.{workloadRight}
+use Rattle.refusals.specs.Table.{atMost}
 use Rattle.refusals.proofs.Scan.{Scan, scan-start, scan-next, scan-here, scan-end}
-use Rattle.refusals.proofs.scans.first_bad_workload.Statement.{statement}
-use Rattle.refusals.proofs.scans.first_bad_workload.Tie as tie
+use Rattle.refusals.proofs.scans.first_above.Statement.{statement}
+use Rattle.refusals.proofs.scans.first_above.Tie as tie
 
 abbrev Inv-loop : tie.InvT-loop
-Inv-loop workloads k₀ k = Scan (length workloads) (workloadRight workloads) k
+Inv-loop most numbers k₀ k = Scan (length numbers) (atMost most numbers) k
 
 abbrev μ-loop : tie.MeasureT-loop
-μ-loop workloads k₀ k = length workloads - k
+μ-loop most numbers k₀ k = length numbers - k
 
 loop-holds : tie.Need-loop-holds Inv-loop μ-loop
 loop-holds c = scan-start _ _
@@ -42,8 +42,8 @@ loop-again c = scan-next _ _ _ _ (sym (le-leb _ _ (c .if1 .left))) refl (search 
 returns-2 : tie.Need-returns-2 Inv-loop μ-loop
 returns-2 c = scan-end _ _ _ (c .loop-test .left) (c .before .loop .inv)
 
-pub first-bad-workload-spec : {M : Type 1} → statement M
-first-bad-workload-spec =
+pub first-above-spec : {M : Type 1} → statement M
+first-above-spec =
     tie.close
     (tie.spec
     Inv-loop
