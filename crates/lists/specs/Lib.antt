@@ -8,3 +8,4 @@ pub mod Parts
 pub mod Few
 pub mod Loops
 pub mod Copied
+pub mod Lent
