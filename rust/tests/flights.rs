@@ -9,7 +9,7 @@ mod plans;
 mod reference;
 mod sheets;
 
-use calls::{asked, rows};
+use calls::{asked, deltas, parts, rows, violation};
 use cases::Memory as _;
 use plans::{sheet_a, sheet_a_with_flights, Numbers};
 use reference::{LIMIT, WEIGHT};
@@ -28,27 +28,6 @@ fn flown(colouring: &[u64], flights: &[&[[u64; 2]]], relation: u64, limit: u64) 
         constraints: vec![5, relation, limit, 1],
         colouring: colouring.to_vec(),
     }
-}
-
-/// The violation of a plan's one constraint.
-fn violation(plan: &Numbers) -> u64 {
-    let (answer, memory) = asked(plan, &[]);
-    let &[holds, violation] = memory.verdicts.content() else { panic!("one constraint") };
-    assert_eq!((answer, holds), ([0, 0, violation, violation], u64::from(violation == 0)));
-    violation
-}
-
-/// The deltas of these moves.
-fn deltas(plan: &Numbers, moves: &[[u64; 3]]) -> Vec<i64> {
-    let rows = rows(plan, moves.as_flattened());
-    assert!(rows.chunks(4).all(|row| row[0] == 0), "all are accepted");
-    rows.chunks(4).map(|row| row[1]).collect()
-}
-
-/// What each region has.
-fn parts(plan: &Numbers) -> Vec<i64> {
-    let questions: Vec<_> = (1..=plan.regions).map(|region| [5, region, 0]).collect();
-    deltas(plan, &questions)
 }
 
 /// The first flight has stretches of 190 and 90 seconds, the second of 45 and 80; one of them is 15 below 60.
@@ -76,7 +55,7 @@ fn sheet_a_and_two_flights() {
 fn relations() {
     let due = [[0, 0, 1], [0, 1, 2], [1, 0, 1], [0, 1, 0], [2, 1, 0], [1, 0, 0]];
     for (relation, due) in (1..).zip(due) {
-        let found = [59, 60, 61].map(|dwell| violation(&flown(&[1], &[&[[1, dwell]]], relation, 60)));
+        let found = [59, 60, 61].map(|dwell| violation(&flown(&[1], &[&[[1, dwell]]], relation, 60), &[]));
         assert_eq!(found, due, "relation {relation}");
     }
 }
@@ -85,7 +64,7 @@ fn relations() {
 fn without_flights_all_hold() {
     for (relation, limit) in (1..=6).flat_map(|relation| [(relation, 0), (relation, LIMIT)]) {
         let plan = flown(&[1, 2], &[], relation, limit);
-        assert_eq!(violation(&plan), 0);
+        assert_eq!(violation(&plan, &[]), 0);
         assert_eq!(deltas(&plan, &[[1, 1, 2], [2, 1, 2], [4, 1, 2], [5, 1, 0]]), [0; 4]);
     }
 }
@@ -93,22 +72,22 @@ fn without_flights_all_hold() {
 #[test]
 fn stretches_are_of_one_flight() {
     let apart = flown(&[1], &[&[[1, 10]], &[[1, 20]]], 3, 30);
-    assert_eq!((violation(&apart), parts(&apart)), (30, vec![30]));
+    assert_eq!((violation(&apart, &[]), parts(&apart)), (30, vec![30]));
     let together = flown(&[1], &[&[[1, 10], [1, 20]]], 3, 30);
-    assert_eq!((violation(&together), parts(&together)), (0, vec![0]));
+    assert_eq!((violation(&together, &[]), parts(&together)), (0, vec![0]));
 }
 
 #[test]
 fn a_stretch_counts_once_for_a_region() {
     let there_and_back = [[1, 10], [2, 20], [1, 30]];
     let one = flown(&[1, 1, 1], &[&there_and_back], 6, 100);
-    assert_eq!((violation(&one), parts(&one)), (40, vec![40, 40, 0]));
+    assert_eq!((violation(&one, &[]), parts(&one)), (40, vec![40, 40, 0]));
     // In three stretches, two of which visit region 1.
     let three = flown(&[1, 2, 1], &[&there_and_back], 6, 100);
-    assert_eq!((violation(&three), parts(&three)), (90 + 80 + 70, vec![90 + 70, 80, 0]));
+    assert_eq!((violation(&three, &[]), parts(&three)), (90 + 80 + 70, vec![90 + 70, 80, 0]));
     // Twice in a row, in two flights.
     let two = flown(&[1, 1, 1], &[&[[1, 10], [1, 20]], &[[3, 5], [1, 5], [1, 5], [3, 5]]], 6, 100);
-    assert_eq!((violation(&two), parts(&two)), (70 + 80, vec![70 + 80, 0, 80]));
+    assert_eq!((violation(&two, &[]), parts(&two)), (70 + 80, vec![70 + 80, 0, 80]));
     // Weighed, and by two equal constraints.
     let twice = Numbers { constraints: [5, 6, 100, 7].repeat(2), ..one };
     assert_eq!(parts(&twice), [2 * 7 * 40, 2 * 7 * 40, 0]);
@@ -119,11 +98,11 @@ fn stretches_split_and_join() {
     let flight = [[1, 10], [2, 20], [3, 30]];
     // 60 seconds; a region at an end leaves two stretches, the one in the middle three.
     let whole = flown(&[1, 1, 1], &[&flight], 6, 100);
-    assert_eq!(violation(&whole), 40);
+    assert_eq!(violation(&whole, &[]), 40);
     assert_eq!(deltas(&whole, &[[1, 1, 2], [1, 2, 2], [1, 3, 2]]), [90 + 50 - 40, 90 + 80 + 70 - 40, 70 + 70 - 40]);
     // 10, 20 and 30 seconds; the middle joins both others, an end joins the middle, or nothing changes.
     let split = flown(&[1, 2, 1], &[&flight], 6, 100);
-    assert_eq!(violation(&split), 240);
+    assert_eq!(violation(&split, &[]), 240);
     assert_eq!(deltas(&split, &[[1, 2, 1], [1, 1, 2], [1, 3, 2], [1, 2, 3]]), [40 - 240, 70 + 70 - 240, 90 + 50 - 240, 0]);
     // Made in turn; after the last, all three are in sector 2.
     assert_eq!(deltas(&split, &[[2, 2, 1], [2, 1, 2], [2, 3, 2], [2, 2, 2]]), [-200, 100, 240 - 140, 40 - 240]);

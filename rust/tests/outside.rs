@@ -9,7 +9,7 @@ mod plans;
 mod reference;
 mod sheets;
 
-use calls::{asked, rows};
+use calls::{asked, deltas, parts, rows, violation};
 use plans::{sheet_a, sheet_a_with_flights, sheet_a_with_outside, Numbers};
 use reference::{AREA, EDGES, LIMIT, REGIONS, WEIGHT};
 use sheets::files;
@@ -22,31 +22,10 @@ fn bordered(plan: Numbers, limit: u64, weight: u64) -> Numbers {
     Numbers { constraints: vec![2, 1, limit, weight], ..plan }
 }
 
-/// The violation of a plan's one constraint after these moves.
-fn violation(plan: &Numbers, moves: &[u64]) -> u64 {
-    let (answer, memory) = asked(plan, moves);
-    let &[holds, violation] = memory.verdicts.content() else { panic!("one constraint") };
-    assert_eq!((answer[..2].to_vec(), answer[3], holds), (vec![0, 0], violation, u64::from(violation == 0)));
-    violation
-}
-
 /// T after these moves, which stands at the end of the work memory.
 fn border(plan: &Numbers, moves: &[u64]) -> u64 {
     let (_, memory) = asked(plan, moves);
     memory.work.content()[(plan.regions + 2 * plan.sectors) as usize]
-}
-
-/// The deltas of these moves.
-fn deltas(plan: &Numbers, moves: &[[u64; 3]]) -> Vec<i64> {
-    let rows = rows(plan, moves.as_flattened());
-    assert!(rows.chunks(4).all(|row| row[0] == 0), "all are accepted");
-    rows.chunks(4).map(|row| row[1]).collect()
-}
-
-/// What each region has.
-fn parts(plan: &Numbers) -> Vec<i64> {
-    let questions: Vec<_> = (1..=plan.regions).map(|region| [5, region, 0]).collect();
-    deltas(plan, &questions)
 }
 
 /// Every recolouring and every exchange of a plan's regions, of this kind.

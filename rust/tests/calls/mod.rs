@@ -229,6 +229,28 @@ pub fn rows(plan: &Numbers, moves: &[u64]) -> Vec<i64> {
     asked(plan, moves).1.rows.content().to_vec()
 }
 
+/// The violation of a plan's one constraint after these moves.
+pub fn violation(plan: &Numbers, moves: &[u64]) -> u64 {
+    let (answer, memory) = asked(plan, moves);
+    let &[holds, violation] = memory.verdicts.content() else { panic!("one constraint") };
+    assert_eq!((&answer[..2], holds), (&[0, 0][..], u64::from(violation == 0)));
+    assert_eq!(answer[3], plan.constraints[3] * violation);
+    violation
+}
+
+/// The deltas of these moves, all of which are accepted.
+pub fn deltas(plan: &Numbers, moves: &[[u64; 3]]) -> Vec<i64> {
+    let rows = rows(plan, moves.as_flattened());
+    assert!(rows.chunks(4).all(|row| row[0] == 0), "all are accepted");
+    rows.chunks(4).map(|row| row[1]).collect()
+}
+
+/// What each region has.
+pub fn parts(plan: &Numbers) -> Vec<i64> {
+    let questions: Vec<_> = (1..=plan.regions).map(|region| [5, region, 0]).collect();
+    deltas(plan, &questions)
+}
+
 impl Case for Call {
     fn compare(&self) -> Result<Code, String> {
         compare(self, &[by_library, by_archive])
