@@ -1,14 +1,9 @@
--- Document 01, "The sheet": Fletcher's two sums over bytes, and a loop that adds them up.
+-- Document 01, "The sheet": Fletcher's two sums over bytes, and that their remainders may be taken once, at the end.
 -- Assumes nothing.
-use Prim.Native.Nat.{ℕ, _+_, _%_, _≤_, _<_}
-use native.Mathlib.Nat.{mod-lt}
-use native.Mathlib.Numerals.{add-one}
-use native.Mathlib.Omega.{arith}
-use mathlib.Core.Path.{_≡_, refl, sym, ap, _∙_}
+use Prim.Native.Nat.{ℕ, _+_, _%_}
+use native.Mathlib.Nat.{mod-add-mod, add-mod}
+use mathlib.Core.Path.{_≡_, refl, sym, ap}
 use mathlib.Core.List.{List, [], _∷_}
-use lib.Dec.{lit<}
-use lib.ListN.{length, getD, drop, drop-of-length-le}
-use lib.Seq.{drop-cons}
 
 -- both sums are taken modulo 255
 abbrev pub modulus : ℕ
@@ -23,29 +18,19 @@ sums a b (x ∷ xs) = sums ((a + x) % modulus) ((b + (a + x) % modulus) % modulu
 abbrev pub check : List ℕ → List ℕ
 check bytes = sums 0 0 bytes .0 ∷ sums 0 0 bytes .1 ∷ []
 
--- a and b are the sums of the bytes before index i: gone on with over the others they are the sums of all
-pub record Summing (bytes : List ℕ) (i a b : ℕ) : Type 0 where
-  pub few : i ≤ length bytes
-  pub first : a < modulus
-  pub second : b < modulus
-  pub rest : sums a b (drop i bytes) ≡ sums 0 0 bytes
+-- ---- all bytes first, the remainders last
 
--- both are 0 before the first byte
-pub summing-start : {bytes : List ℕ} → Summing bytes 0 0 0
-summing-start = record { few = omega arith; first = lit< tt; second = lit< tt; rest = refl }
+-- the sums a and b, gone on with over bytes in the same way, with no remainder taken
+abbrev pub added : ℕ → ℕ → List ℕ → ℕ × ℕ
+added a b [] = (a, b)
+added a b (x ∷ xs) = added (a + x) (b + (a + x)) xs
 
-module _ {bytes : List ℕ} {i a b : ℕ} (s : Summing bytes i a b) where
-  -- one byte more
-  pub summing-turn : i < length bytes → Summing bytes (i + 1) ((a + getD bytes i 0) % modulus) ((b + (a + getD bytes i 0) % modulus) % modulus)
-  summing-turn h =
-      record {
-        few = omega arith;
-        first = mod-lt (a + getD bytes i 0) (lit< tt);
-        second = mod-lt (b + (a + getD bytes i 0) % modulus) (lit< tt);
-        rest = rw (add-one i) (ap (sums a b) (sym (drop-cons bytes i 0 h)) ∙ s .rest);
-      }
+-- both orders give the same two sums
+pub sums-added : (a b : ℕ) (bytes : List ℕ) → sums (a % modulus) (b % modulus) bytes ≡ (added a b bytes .0 % modulus, added a b bytes .1 % modulus)
+sums-added a b [] = refl
+sums-added a b (x ∷ xs) =
+    rw (mod-add-mod a modulus x) (rw (sym (add-mod b (a + x) modulus)) (sums-added (a + x) (b + (a + x)) xs))
 
-  -- past the last byte they are the check
-  pub summing-end : length bytes ≤ i → a ∷ b ∷ [] ≡ check bytes
-  summing-end h =
-      ap (λ (p : ℕ × ℕ). p .0 ∷ p .1 ∷ []) (ap (sums a b) (sym (drop-of-length-le bytes h)) ∙ s .rest)
+-- and so the same check
+pub check-added : (bytes : List ℕ) → check bytes ≡ added 0 0 bytes .0 % modulus ∷ added 0 0 bytes .1 % modulus ∷ []
+check-added bytes = ap (λ (p : ℕ × ℕ). p .0 ∷ p .1 ∷ []) (sums-added 0 0 bytes)

@@ -1,6 +1,7 @@
 pub mod Fletcher
 pub mod Same
 pub mod Block
+pub mod Summing
 pub mod BlockLaws
 pub mod Section
 pub mod SectionLaws

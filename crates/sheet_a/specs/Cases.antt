@@ -13,7 +13,7 @@ use Rattle.meaning.specs.Stretches.{before, stretches, dwellOf, visits}
 use Rattle.meaning.specs.Kinds.{ncc, nccAll, load, whole, outsideArea, border, counts, loads, deviation, connected, bounded, dwelling, byKind, violation, holds, total, leadsTo, borderOf, dwellingOf, partOf, regionViolation}
 use Rattle.meaning.specs.Outer.{faces, colours, isIn, surface}
 use Rattle.meaning.specs.Moves.{movesOf, next, delta, differing, relabelled, row, cells, rows, verdict, verdictsOf, verdicts, work}
-use Rattle.blocks.specs.Fletcher.{check}
+use Rattle.blocks.specs.Fletcher.{check, added}
 
 -- ---- the plans, a flight, and a text
 
@@ -129,11 +129,15 @@ ofOutside =
     ∷ (numbers (map (surface (faces planO) (colours colouringA 0)) ((1 ∷ 2 ∷ 3 ∷ []) ∷ (4 ∷ 5 ∷ []) ∷ [])) is (10 ∷ 5 ∷ []))
     ∷ []
 
+-- C-14's line: with no remainder taken, the sums of the same text are 97 + 98 + 99 + 100 + 101, which is 255 + 240, and 97 + 195 + 294 + 394 + 495, which is 5 * 255 + 200
+ofCheck : List Case
+ofCheck = (numbers (added 0 0 abcde .0 ∷ added 0 0 abcde .1 ∷ []) is (495 ∷ 1475 ∷ [])) ∷ []
+
 -- all lines
 pub cases : List Case
-cases = ofSheetA ++ ofFlights ++ ofOutside
+cases = ofSheetA ++ ofFlights ++ ofOutside ++ ofCheck
 
 -- every line of the table is as it must be
 pub all-right : map (λ c. c .found) cases ≡ map (λ c. numbers (c .due)) cases
-unfolding sheetA planA planF planO colouringA flight12 colouring12 lone abcde rowsOn ofSheetA ofFlights ofOutside cases stands distance recolouring exchange question ofRegion moveOf edgesOf visitsOf flightsOf constraintsOf takeIn takeAll labels before stretches visits ncc nccAll load whole outsideArea border counts loads deviation connected bounded dwelling byKind violation holds total leadsTo borderOf dwellingOf partOf regionViolation movesOf next delta differing relabelled row cells rows verdict verdictsOf work isIn surface
+unfolding sheetA planA planF planO colouringA flight12 colouring12 lone abcde rowsOn ofSheetA ofFlights ofOutside ofCheck cases stands distance recolouring exchange question ofRegion moveOf edgesOf visitsOf flightsOf constraintsOf takeIn takeAll labels before stretches visits ncc nccAll load whole outsideArea border counts loads deviation connected bounded dwelling byKind violation holds total leadsTo borderOf dwellingOf partOf regionViolation movesOf next delta differing relabelled row cells rows verdict verdictsOf work isIn surface
 all-right = refl

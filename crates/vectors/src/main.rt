@@ -7,6 +7,7 @@ ghost use Rattle.blocks.specs.Block.{blockLength};
 use blocks::BLOCK_LENGTH;
 use blocks::CHECKED_LENGTH;
 use blocks::HEADER_LENGTH;
+use blocks::check::Sums;
 use blocks::check::sums_of;
 use libc::STDOUT_FILENO;
 use sheet::showing::block;
@@ -42,8 +43,7 @@ fn say_bytes(bytes: &[u8]) {
     }
 }
 
-fn say_sums(name: &[u8], bytes: &[u8]) {
-    let sums = sums_of(bytes);
+fn say_sums(name: &[u8], sums: Sums) {
     say(name);
     say_number(sums.first as u64);
     say_number(sums.second as u64);
@@ -70,15 +70,16 @@ fn say_block(sheet: &[u8], number: usize)
 
 // The published sums, and those of few bytes and of many, where a sum comes to 255 and so to 0.
 fn fletcher_lines() {
-    say_sums(b"abcde:", b"abcde");
-    say_sums(b"abcdef:", b"abcdef");
-    say_sums(b"abcdefgh:", b"abcdefgh");
-    say_sums(b"no byte:", &[]);
-    say_sums(b"a byte 254:", &[254]);
-    say_sums(b"a byte 255:", &[255]);
-    say_sums(b"bytes 254 and 1:", &[254, 1]);
-    say_sums(b"255 bytes 1:", &[1; 255]);
-    say_sums(b"255 bytes 255:", &[255; 255]);
+    say_sums(b"abcde:", sums_of(b"abcde"));
+    say_sums(b"abcdef:", sums_of(b"abcdef"));
+    say_sums(b"abcdefgh:", sums_of(b"abcdefgh"));
+    say_sums(b"no byte:", sums_of(&[]));
+    say_sums(b"a byte 254:", sums_of(&[254]));
+    say_sums(b"a byte 255:", sums_of(&[255]));
+    say_sums(b"bytes 254 and 1:", sums_of(&[254, 1]));
+    say_sums(b"255 bytes 1:", sums_of(&[1; 255]));
+    say_sums(b"255 bytes 255:", sums_of(&[255; 255]));
+    say_sums(b"510 bytes 255:", sums_of(&[255; CHECKED_LENGTH]));
 }
 
 // The bytes are lent with none zero, so that every zero is written.

@@ -1,4 +1,4 @@
-//! The sheet read and written in plain Rust: the same checks in the same order, a block's check with a modulo for each byte.
+//! The sheet read and written in plain Rust: the same checks in the same order, each sum of a block's check reduced once.
 
 use crate::plans::Plan;
 use crate::same_method::{plan_refusal, Refused};
@@ -10,10 +10,10 @@ const CHECK: usize = 510;
 fn fletcher(bytes: &[u8]) -> [u8; 2] {
     let (mut first, mut second) = (0, 0);
     for &byte in bytes {
-        first = (first + byte as u32) % 255;
-        second = (second + first) % 255;
+        first += byte as u32;
+        second += first;
     }
-    [first as u8, second as u8]
+    [(first % 255) as u8, (second % 255) as u8]
 }
 
 fn unless(right: bool, code: u64, place: u64) -> Result<(), Refused> {

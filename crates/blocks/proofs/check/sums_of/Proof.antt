@@ -3,7 +3,7 @@ use Prim.Native.Nat.{_-_}
 use native.Mathlib.Omega.{arith}
 use borrow.Author.Needs.{needs}
 use lib.ListN.{length}
-use Rattle.blocks.specs.Fletcher.{Summing, summing-start, summing-turn, summing-end}
+use Rattle.blocks.specs.Summing.{Summing, summing-start, summing-turn, summing-end}
 use Rattle.blocks.proofs.check.sums_of.Statement.{statement}
 use Rattle.blocks.proofs.check.sums_of.Tie as tie
 
@@ -26,7 +26,7 @@ add-first : tie.Need-add-first Inv-loop μ-loop
 add-first c = omega (arith, c .shared-slice-known .given (c .before .before .loop .i))
 
 add-second : tie.Need-add-second Inv-loop μ-loop
-add-second c = search needs
+add-second c = omega (arith, c .shared-slice-known .given (c .before .before .loop .i), c .before .before .loop .inv .first)
 
 add-i : tie.Need-add-i Inv-loop μ-loop
 add-i c = search needs
@@ -35,13 +35,14 @@ loop-less : tie.Need-loop-less Inv-loop μ-loop
 loop-less c = search needs
 
 loop-again : tie.Need-loop-again Inv-loop μ-loop
-loop-again c = summing-turn (c .before .before .loop .inv) (c .before .loop-test .taken)
+loop-again c =
+    summing-turn (c .before .before .loop .inv) (c .before .before .before .pre) (c .before .loop-test .taken) (omega (arith, c .shared-slice-known .given (c .before .before .loop .i)))
 
 cast-t11 : tie.Need-cast-t11 Inv-loop μ-loop
 cast-t11 c = search needs
 
-cast-t12 : tie.Need-cast-t12 Inv-loop μ-loop
-cast-t12 c = search needs
+cast-t13 : tie.Need-cast-t13 Inv-loop μ-loop
+cast-t13 c = search needs
 
 returns : tie.Need-returns Inv-loop μ-loop
 returns c = summing-end (c .before .loop .inv) (c .loop-test .left)
@@ -61,5 +62,5 @@ sums-of-spec =
     loop-less
     loop-again
     cast-t11
-    cast-t12
+    cast-t13
     returns)
