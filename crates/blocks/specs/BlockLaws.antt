@@ -5,9 +5,10 @@ use native.Mathlib.Omega.{arith}
 use mathlib.Core.Path.{_≡_, refl, sym, ap, _∙_}
 use mathlib.Core.List.{List, [], _∷_, _++_, append-assoc}
 use mathlib.Core.Bool.{Bool, true, false, and-eq-true-iff}
-use lib.ListN.{length, replicate, length-append, length-replicate}
+use lib.ListN.{length, take, set, replicate, length-append, length-replicate}
 use lib.Seq.{take-at, take-all, drop-at}
 use Rattle.packing.specs.Part.{part, length-part, part-take, part-cut, part-middle}
+use Rattle.packing.specs.Put.{put}
 use Rattle.packing.specs.Numbers.{le}
 use Rattle.blocks.specs.Fletcher.{check}
 use Rattle.blocks.specs.Same.{same, same-eq, eq-same}
@@ -23,15 +24,37 @@ pub record Headed (letters : List ℕ) (kind number used : ℕ) (block : List �
   pub numbered : part numberAt usedAt block ≡ le 2 number
   pub counted : part usedAt headerLength block ≡ le 2 used
 
+-- four letters, one by one
+data Four : List ℕ → Type 0 where
+  each : (a b c d : ℕ) → Four (a ∷ b ∷ c ∷ d ∷ [])
+
+four-letters : (l : List ℕ) → length l ≡ lettersLength → Four l
+four-letters (a ∷ b ∷ c ∷ d ∷ []) e = each a b c d
+four-letters [] e = absurd (omega arith)
+four-letters (a ∷ []) e = absurd (omega arith)
+four-letters (a ∷ b ∷ []) e = absurd (omega arith)
+four-letters (a ∷ b ∷ c ∷ []) e = absurd (omega arith)
+four-letters (a ∷ b ∷ c ∷ d ∷ x ∷ l) e = absurd (omega arith)
+
 -- those of the header are
 pub header-headed : (letters : List ℕ) (kind number used : ℕ) → length letters ≡ lettersLength → Headed letters kind number used (header letters kind number used)
 unfolding header
-header-headed (a ∷ b ∷ c ∷ d ∷ []) kind number used e = record { front = refl; fifth = refl; sixth = refl; numbered = refl; counted = refl }
-header-headed [] kind number used e = absurd (omega arith)
-header-headed (a ∷ []) kind number used e = absurd (omega arith)
-header-headed (a ∷ b ∷ []) kind number used e = absurd (omega arith)
-header-headed (a ∷ b ∷ c ∷ []) kind number used e = absurd (omega arith)
-header-headed (a ∷ b ∷ c ∷ d ∷ x ∷ l) kind number used e = absurd (omega arith)
+header-headed letters kind number used e = go (four-letters letters e)
+  where
+    go : {l : List ℕ} → Four l → Headed l kind number used (header l kind number used)
+    go (each a b c d) = record { front = refl; fifth = refl; sixth = refl; numbered = refl; counted = refl }
+
+-- ten zeros with them put down are the header
+pub header-put : (letters : List ℕ) (kind number used : ℕ) → length letters ≡ lettersLength → {h₁ h₂ h₃ : List ℕ} → h₁ ≡ put (replicate headerLength 0) 0 (take lettersLength letters)
+    → h₂ ≡ put (set h₁ kindAt kind) numberAt (le 2 number) → h₃ ≡ put h₂ usedAt (le 2 used) → h₃ ≡ header letters kind number used
+unfolding header put
+header-put letters kind number used e e₁ e₂ e₃ =
+    e₃
+    ∙ ap (λ (h : List ℕ). put h usedAt (le 2 used)) (e₂ ∙ ap (λ (h : List ℕ). put (set h kindAt kind) numberAt (le 2 number)) e₁)
+    ∙ go (four-letters letters e)
+  where
+    go : {l : List ℕ} → Four l → put (put (set (put (replicate headerLength 0) 0 (take lettersLength l)) kindAt kind) numberAt (le 2 number)) usedAt (le 2 used) ≡ header l kind number used
+    go (each a b c d) = refl
 
 module _ {letters : List ℕ} {kind number used : ℕ} {block : List ℕ} where
   -- so are those of a block that starts with it

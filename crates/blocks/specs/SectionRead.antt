@@ -1,6 +1,7 @@
 -- The records of a section read from its blocks, one block after the other.
 -- Assumes nothing.
 use Prim.Native.Nat.{ℕ, _+_, _-_, _*_, _/_, _≤_, _<_, min}
+use native.Mathlib.Nat.{zero-div}
 use native.Mathlib.Omega.{arith}
 use mathlib.Core.Path.{_≡_, ap, _∙_}
 use mathlib.Core.List.{List, _++_}
@@ -12,90 +13,84 @@ use Rattle.packing.specs.Numbers.{unpack, total, rep, length-unpack}
 use Rattle.packing.specs.Cuts.{unpack-split, length-rep}
 use Rattle.blocks.specs.declared.Section.{Section}
 use Rattle.blocks.specs.Block.{blockLength, headerLength, payloadOf}
-use Rattle.blocks.specs.Section.{sectionDues, blocksOf}
+use Rattle.blocks.specs.Section.{section, sectionDues, blockCount, blocksOf}
 use Rattle.blocks.specs.Sheet.{blockAt, streamFrom}
 use Rattle.blocks.specs.SheetLaws.{stream-kind}
-use Rattle.blocks.specs.Whole.{Whole, Cut, records, recordBlocks, whole-records, whole-cut, cut-dues, cut-blocks, cut-small, cut-some}
+use Rattle.blocks.specs.Whole.{Whole, whole-other, whole-used, whole-rest, whole-count, whole-small, whole-dues, whole-blocks}
 
--- the numbers of `count` records, from block `first` on
-abbrev pub recordsIn : List ℕ → ℕ → List ℕ → ℕ → ℕ → ℕ → List ℕ
-recordsIn sheet first ws stride full count =
-    unpack (rep count ws) (streamFrom (sectionDues (records 0 stride full count)) (drop (blockLength * first) sheet))
+-- the numbers of a section's records, from block `number` on
+abbrev pub numbersIn : List ℕ → ℕ → Section → List ℕ → ℕ → List ℕ
+numbersIn sheet number s ws stride =
+    unpack (rep (s .bytes / stride) ws) (streamFrom (sectionDues s) (drop (blockLength * number) sheet))
 
--- of `count` records `left` are left to put down from index `to` on, and they start in block `number`
-pub record SectionRead (sheet : List ℕ) (first : ℕ) (ws : List ℕ) (stride full count : ℕ) (out₀ : List ℕ) (at left number to : ℕ) (out : List ℕ) : Type 0 where
-  pub cut : Cut ws stride full
-  pub inside : blockLength * (number + recordBlocks stride full left) ≤ length sheet
-  pub putting : Putting out₀ at (recordsIn sheet first ws stride full count) out to (recordsIn sheet number ws stride full left)
+-- `left` bytes of the section are left to read from block `number` on, and their numbers go from index `to` on; what kind it has does not matter
+pub record SectionRead (sheet : List ℕ) (first size bytes : ℕ) (ws : List ℕ) (stride : ℕ) (out₀ : List ℕ) (at left number to : ℕ) (out : List ℕ) : Type 0 where
+  pub whole : Whole (section 0 size left) ws stride
+  pub inside : blockLength * (number + blockCount size left) ≤ length sheet
+  pub putting : Putting out₀ at (numbersIn sheet first (section 0 size bytes) ws stride) out to (numbersIn sheet number (section 0 size left) ws stride)
 
-module _ {s : Section} {ws : List ℕ} {stride : ℕ} (w : Whole s ws stride) where
-  -- all are left
-  pub section-read-start : {sheet out₀ : List ℕ} {first at : ℕ} → blockLength * (first + blocksOf s) ≤ length sheet → at + s .bytes / stride * length ws ≤ length out₀
-      → SectionRead sheet first ws stride (s .size / stride) (s .bytes / stride) out₀ at (s .bytes / stride) first at out₀
-  section-read-start {sheet} {first = first} b o =
-      let stream = streamFrom (sectionDues (records 0 stride (s .size / stride) (s .bytes / stride))) (drop (blockLength * first) sheet) in
-      record {
-        cut = whole-cut w;
-        inside = rw (ap (λ (q : Section). blocksOf q) (whole-records w)) b;
-        putting = putting-start (omega (arith, length-unpack (rep (s .bytes / stride) ws) stream, length-rep (s .bytes / stride) ws));
-      }
+-- all are left
+pub section-read-start : {s : Section} {ws : List ℕ} {stride : ℕ} → Whole s ws stride → {sheet out₀ : List ℕ} {first at : ℕ} → blockLength * (first + blocksOf s) ≤ length sheet → at + s .bytes / stride * length ws ≤ length out₀
+    → SectionRead sheet first (s .size) (s .bytes) ws stride out₀ at (s .bytes) first at out₀
+section-read-start {s} {ws} {stride} w {sheet} {first = first} b o =
+    let stream = streamFrom (sectionDues (section 0 (s .size) (s .bytes))) (drop (blockLength * first) sheet) in
+    record {
+      whole = whole-other w (w .all);
+      inside = b;
+      putting = putting-start (omega (arith, length-unpack (rep (s .bytes / stride) ws) stream, length-rep (s .bytes / stride) ws));
+    }
 
-  -- none is left
-  pub section-read-end : {sheet out₀ out : List ℕ} {first at left number to : ℕ} → SectionRead sheet first ws stride (s .size / stride) (s .bytes / stride) out₀ at left number to out → left ≡ 0
-      → out ≡ put out₀ at (unpack (rep (s .bytes / stride) ws) (streamFrom (sectionDues s) (drop (blockLength * first) sheet)))
-  section-read-end {sheet} {out₀} {first = first} {at} r e =
-      let full = s .size / stride in
-      let count = s .bytes / stride in
-      let rest = drop (blockLength * first) sheet in
-      putting-end (r .putting) (rw e)
-      ∙ ap (λ (l : List ℕ). put out₀ at (unpack (rep count ws) l)) (stream-kind 0 (s .kind) (full * stride) (recordBlocks stride full count) (count * stride) rest)
-      ∙ ap (λ (q : Section). put out₀ at (unpack (rep count ws) (streamFrom (sectionDues q) rest))) (whole-records w)
+module _ {sheet ws out₀ out : List ℕ} {first size bytes stride at left number to : ℕ} (r : SectionRead sheet first size bytes ws stride out₀ at left number to out) where
+  -- none is left, whatever the kind
+  pub section-read-end : left ≡ 0 → (kind : ℕ) → out ≡ put out₀ at (unpack (rep (bytes / stride) ws) (streamFrom (sectionDues (section kind size bytes)) (drop (blockLength * first) sheet)))
+  section-read-end e kind =
+      putting-end (r .putting) (rw (e, zero-div stride))
+      ∙ ap (λ (l : List ℕ). put out₀ at (unpack (rep (bytes / stride) ws) l)) (stream-kind 0 kind size (blockCount size bytes) bytes (drop (blockLength * first) sheet))
 
-module _ {sheet ws out₀ out : List ℕ} {first stride full count at left number to : ℕ} (r : SectionRead sheet first ws stride full count out₀ at left number to out) where
-  module _ {n : ℕ} (h : 0 < left) (e : n ≡ min full left) where
+  module _ {used : ℕ} (h : 0 < left) (e : used ≡ min size left) where
     payload : List ℕ
-    payload = payloadOf (n * stride) (blockAt sheet number)
+    payload = payloadOf used (blockAt sheet number)
 
     -- the next block lies in the sheet
     pub section-read-block : blockLength * number + blockLength ≤ length sheet
-    section-read-block = omega (arith, r .inside, cut-blocks (r .cut) left e h)
+    section-read-block = omega (arith, r .inside, whole-blocks (r .whole) e h)
 
-    long : length payload ≡ n * stride
+    long : length payload ≡ used
     unfolding payload
     long =
         let rest = drop (blockLength * number) sheet in
         let b : length (take blockLength rest) ≡ blockLength = length-take-le blockLength rest (omega (arith, section-read-block, length-drop (blockLength * number) sheet)) in
-        length-part headerLength (headerLength + n * stride) (take blockLength rest) (omega arith) (omega (arith, cut-small (r .cut) left e h)) ∙ omega arith
+        length-part headerLength (headerLength + used) (take blockLength rest) (omega arith) (omega (arith, whole-small (r .whole) e)) ∙ omega arith
 
     -- its records, and the others
-    next : recordsIn sheet number ws stride full left ≡ unpack (rep n ws) payload ++ recordsIn sheet (number + 1) ws stride full (left - n)
+    next : numbersIn sheet number (section 0 size left) ws stride ≡ unpack (rep (used / stride) ws) payload ++ numbersIn sheet (number + 1) (section 0 size (left - used)) ws stride
     unfolding payload
     next =
         let m : blockLength * (number + 1) ≡ blockLength * number + blockLength = omega arith in
-        let k : left ≡ n + (left - n) = omega (arith, cut-some (r .cut) left e h) in
         let d : drop blockLength (drop (blockLength * number) sheet) ≡ drop (blockLength * (number + 1)) sheet = drop-drop blockLength (blockLength * number) sheet ∙ rw m in
-        let p : length payload ≡ n * total ws = long ∙ ap (λ (j : ℕ). n * j) (r .cut .sum) in
-        rw (cut-dues (r .cut) left e h 0, d)
-        (ap (λ (j : ℕ). unpack (rep j ws) (payload ++ streamFrom (sectionDues (records 0 stride full (left - n))) (drop (blockLength * (number + 1)) sheet))) k
-        ∙ unpack-split n (left - n) ws payload (streamFrom (sectionDues (records 0 stride full (left - n))) (drop (blockLength * (number + 1)) sheet)) p)
+        let p : length payload ≡ used / stride * total ws = long ∙ omega (arith, whole-used (r .whole) e, ap (λ (j : ℕ). used / stride * j) (r .whole .sum)) in
+        let more = streamFrom (sectionDues (section 0 size (left - used))) (drop (blockLength * (number + 1)) sheet) in
+        rw (whole-dues (r .whole) e h, d)
+        (ap (λ (j : ℕ). unpack (rep j ws) (payload ++ more)) (whole-count (r .whole) e)
+        ∙ unpack-split (used / stride) ((left - used) / stride) ws payload more p)
 
     -- there is room for its numbers
-    pub section-read-room : to + n * length ws ≤ length out
+    pub section-read-room : to + used / stride * length ws ≤ length out
     section-read-room =
-        omega (arith, putting-room (r .putting) (unpack (rep n ws) payload) _ next, length-unpack (rep n ws) payload, length-rep n ws)
+        omega (arith, putting-room (r .putting) (unpack (rep (used / stride) ws) payload) _ next, length-unpack (rep (used / stride) ws) payload, length-rep (used / stride) ws)
 
-    module _ {bytes : List ℕ} (p : bytes ≡ payloadOf (n * stride) (blockAt sheet number)) where
+    module _ {shown : List ℕ} (p : shown ≡ payloadOf used (blockAt sheet number)) where
       -- its payload has their bytes
-      pub section-read-long : n * stride ≤ length bytes
+      pub section-read-long : used / stride * stride ≤ length shown
       unfolding payload
-      section-read-long = omega (arith, ap length p, long)
+      section-read-long = omega (arith, ap length p, long, whole-used (r .whole) e)
 
       -- they are put down
-      pub section-read-turn : {out′ : List ℕ} → out′ ≡ put out to (unpack (rep n ws) bytes) → SectionRead sheet first ws stride full count out₀ at (left - n) (number + 1) (to + n * length ws) out′
+      pub section-read-turn : {out′ : List ℕ} → out′ ≡ put out to (unpack (rep (used / stride) ws) shown) → SectionRead sheet first size bytes ws stride out₀ at (left - used) (number + 1) (to + used / stride * length ws) out′
       unfolding payload
       section-read-turn q =
           record {
-            cut = r .cut;
-            inside = omega (arith, r .inside, cut-blocks (r .cut) left e h);
-            putting = putting-more (r .putting) (unpack (rep n ws) payload) next (q ∙ rw p) (rw (length-unpack (rep n ws) payload, length-rep n ws));
+            whole = whole-rest (r .whole) e;
+            inside = omega (arith, r .inside, whole-blocks (r .whole) e h);
+            putting = putting-more (r .putting) (unpack (rep (used / stride) ws) payload) next (q ∙ rw p) (rw (length-unpack (rep (used / stride) ws) payload, length-rep (used / stride) ws));
           }

@@ -1,7 +1,7 @@
 -- The records of a section written to its blocks, one block after the other.
 -- Assumes nothing.
 use Prim.Native.Nat.{ℕ, _+_, _-_, _*_, _/_, _≤_, _<_, min}
-use native.Mathlib.Nat.{add-mul, zero-mul, mul-le-mul-right}
+use native.Mathlib.Nat.{add-mul}
 use native.Mathlib.Numerals.{add-one}
 use native.Mathlib.Omega.{arith}
 use mathlib.Core.Path.{_≡_, ap, _∙_}
@@ -14,99 +14,95 @@ use Rattle.packing.specs.Cuts.{pack-split}
 use Rattle.blocks.specs.declared.Section.{Section}
 use Rattle.blocks.specs.Block.{blockLength, lettersLength, blockOf}
 use Rattle.blocks.specs.BlockLaws.{length-block}
-use Rattle.blocks.specs.Section.{sectionDues, blocksOf}
-use Rattle.blocks.specs.SectionLaws.{length-dues, small-dues}
+use Rattle.blocks.specs.Section.{section, sectionDues, blocksOf}
+use Rattle.blocks.specs.SectionLaws.{count-none, length-dues, small-dues}
 use Rattle.blocks.specs.Sheet.{sheetFrom}
 use Rattle.blocks.specs.SheetLaws.{length-sheet}
-use Rattle.blocks.specs.Whole.{Whole, Cut, records, whole-records, whole-cut, cut-none, cut-dues, cut-small, cut-some}
+use Rattle.blocks.specs.Whole.{Whole, whole-used, whole-rest, whole-count, whole-small, whole-dues}
 use Rattle.blocks.specs.Filling.{Filling, payloadIn, filling-used}
 
--- the blocks of `count` records of numbers from `from` on, from block `first` on
-abbrev pub recordsOut : List ℕ → ℕ → ℕ → List ℕ → ℕ → ℕ → ℕ → List ℕ → ℕ → List ℕ
-recordsOut letters first kind ws stride full count xs from =
-    sheetFrom letters first (sectionDues (records kind stride full count)) (payloadIn ws xs from count)
+-- a section's blocks from block `number` on, with records of numbers from `from` on
+abbrev pub blocksOut : List ℕ → ℕ → Section → List ℕ → ℕ → List ℕ → ℕ → List ℕ
+blocksOut letters number s ws stride xs from = sheetFrom letters number (sectionDues s) (payloadIn ws xs from (s .bytes / stride))
 
--- of `count` records `left` are left to put down from block `number` on, and they start at number `from`
-pub record SectionWritten (letters : List ℕ) (first kind : ℕ) (ws : List ℕ) (stride full count : ℕ) (xs sheet₀ : List ℕ) (left number from : ℕ) (sheet : List ℕ) : Type 0 where
-  pub cut : Cut ws stride full
+-- `left` bytes of the section are left to put down from block `number` on, and their numbers start at `from`
+pub record SectionWritten (letters : List ℕ) (first kind size bytes : ℕ) (ws : List ℕ) (stride : ℕ) (xs sheet₀ : List ℕ) (left number from : ℕ) (sheet : List ℕ) : Type 0 where
+  pub whole : Whole (section kind size left) ws stride
   pub four : length letters ≡ lettersLength
-  pub inside : from + left * length ws ≤ length xs
-  pub putting : Putting sheet₀ (blockLength * first) (recordsOut letters first kind ws stride full count xs 0) sheet (blockLength * number) (recordsOut letters number kind ws stride full left xs from)
+  pub inside : from + left / stride * length ws ≤ length xs
+  pub putting : Putting sheet₀ (blockLength * first) (blocksOut letters first (section kind size bytes) ws stride xs 0) sheet (blockLength * number) (blocksOut letters number (section kind size left) ws stride xs from)
 
-module _ {s : Section} {ws : List ℕ} {stride : ℕ} (w : Whole s ws stride) where
-  -- a whole section's blocks are those of its records
-  whole-out : (letters : List ℕ) (first : ℕ) (xs : List ℕ) → recordsOut letters first (s .kind) ws stride (s .size / stride) (s .bytes / stride) xs 0 ≡ sheetFrom letters first (sectionDues s) (pack (rep (s .bytes / stride) ws) xs)
-  whole-out letters first xs = ap (λ (q : Section). sheetFrom letters first (sectionDues q) (pack (rep (s .bytes / stride) ws) xs)) (whole-records w)
+-- all are left
+pub section-written-start : {s : Section} {ws : List ℕ} {stride : ℕ} → Whole s ws stride → {letters xs sheet₀ : List ℕ} {first : ℕ} → length letters ≡ lettersLength → blockLength * (first + blocksOf s) ≤ length sheet₀
+    → s .bytes / stride * length ws ≤ length xs → SectionWritten letters first (s .kind) (s .size) (s .bytes) ws stride xs sheet₀ (s .bytes) first 0 sheet₀
+section-written-start {s} {ws} {stride} w {letters} {xs} {sheet₀} {first} four b n =
+    let size = length-sheet letters four first (sectionDues s) (payloadIn ws xs 0 (s .bytes / stride)) (small-dues s (w .sized)) in
+    record {
+      whole = w;
+      four = four;
+      inside = omega arith;
+      putting = putting-start (omega (arith, length-dues (s .kind) (s .size) (blocksOf s) (s .bytes)));
+    }
 
-  -- all are left
-  pub section-written-start : {letters xs sheet₀ : List ℕ} {first : ℕ} → length letters ≡ lettersLength → blockLength * (first + blocksOf s) ≤ length sheet₀
-      → s .bytes / stride * length ws ≤ length xs → SectionWritten letters first (s .kind) ws stride (s .size / stride) (s .bytes / stride) xs sheet₀ (s .bytes / stride) first 0 sheet₀
-  section-written-start {letters} {xs} {sheet₀} {first} four b n =
-      let size = length-sheet letters four first (sectionDues s) (pack (rep (s .bytes / stride) ws) xs) (small-dues s (w .sized)) in
-      record {
-        cut = whole-cut w;
-        four = four;
-        inside = omega arith;
-        putting = putting-start (rw (whole-out letters first xs) (omega (arith, length-dues (s .kind) (s .size) (blocksOf s) (s .bytes))));
-      }
-
+module _ {letters ws xs sheet₀ sheet : List ℕ} {first kind size bytes stride left number from : ℕ} (r : SectionWritten letters first kind size bytes ws stride xs sheet₀ left number from sheet) where
   -- none is left
-  pub section-written-end : {letters xs sheet₀ sheet : List ℕ} {first left number from : ℕ} → SectionWritten letters first (s .kind) ws stride (s .size / stride) (s .bytes / stride) xs sheet₀ left number from sheet → left ≡ 0
-      → sheet ≡ put sheet₀ (blockLength * first) (sheetFrom letters first (sectionDues s) (pack (rep (s .bytes / stride) ws) xs))
-  section-written-end {letters} {xs} {sheet₀} {first = first} r e =
-      let z = cut-none (r .cut) in
-      putting-end (r .putting) (rw (e, zero-mul stride, z)) ∙ ap (put sheet₀ (blockLength * first)) (whole-out letters first xs)
+  pub section-written-end : left ≡ 0 → sheet ≡ put sheet₀ (blockLength * first) (sheetFrom letters first (sectionDues (section kind size bytes)) (pack (rep (bytes / stride) ws) xs))
+  section-written-end e = putting-end (r .putting) (rw (e, count-none size (r .whole .sized .low)))
 
-module _ {letters ws xs sheet₀ sheet : List ℕ} {first kind stride full count left number from : ℕ} (r : SectionWritten letters first kind ws stride full count xs sheet₀ left number from sheet) where
-  module _ {n : ℕ} (h : 0 < left) (e : n ≡ min full left) where
+  module _ {used : ℕ} (h : 0 < left) (e : used ≡ min size left) where
     stream : List ℕ
-    stream = payloadIn ws xs from n
+    stream = payloadIn ws xs from (used / stride)
 
     block : List ℕ
     block = blockOf letters kind number stream
 
+    -- the numbers that are left are the next block's and the others
+    split : left / stride * length ws ≡ used / stride * length ws + (left - used) / stride * length ws
+    split = ap (λ (k : ℕ). k * length ws) (whole-count (r .whole) e) ∙ add-mul (used / stride) ((left - used) / stride) (length ws)
+
     -- the next block is filled with the next records
-    pub section-written-filling : Filling letters ws xs stride from n
+    pub section-written-filling : Filling letters ws xs stride from (used / stride)
     section-written-filling =
         record {
           four = r .four;
-          widths = r .cut .widths;
-          sum = r .cut .sum;
-          small = cut-small (r .cut) left e h;
-          there = omega (arith, r .inside, mul-le-mul-right {m = n} {n = left} (length ws) (cut-some (r .cut) left e h .1));
+          widths = r .whole .widths;
+          sum = r .whole .sum;
+          small = omega (arith, whole-used (r .whole) e, whole-small (r .whole) e);
+          there = omega (arith, r .inside, split);
         }
 
-    stream-long : length stream ≡ n * stride
+    stream-long : length stream ≡ used
     unfolding stream
-    stream-long = filling-used section-written-filling
+    stream-long = filling-used section-written-filling ∙ whole-used (r .whole) e
 
     block-long : length block ≡ blockLength
     unfolding block
-    block-long = length-block letters kind number (r .four) stream (omega (arith, stream-long, cut-small (r .cut) left e h))
+    block-long = length-block letters kind number (r .four) stream (omega (arith, stream-long, whole-small (r .whole) e))
 
     -- the next block, and the others
-    next-block : recordsOut letters number kind ws stride full left xs from ≡ block ++ recordsOut letters (number + 1) kind ws stride full (left - n) xs (from + n * length ws)
+    next-block : blocksOut letters number (section kind size left) ws stride xs from ≡ block ++ blocksOut letters (number + 1) (section kind size (left - used)) ws stride xs (from + used / stride * length ws)
     unfolding block stream
     next-block =
-        let k : left ≡ n + (left - n) = omega (arith, cut-some (r .cut) left e h) in
-        let more = pack (rep (left - n) ws) (drop (from + n * length ws) xs) in
-        let s : pack (rep left ws) (drop from xs) ≡ stream ++ more =
-        ap (λ (j : ℕ). pack (rep j ws) (drop from xs)) k ∙ pack-split n (left - n) ws (drop from xs) ∙ ap (λ (l : List ℕ). stream ++ pack (rep (left - n) ws) l) (drop-drop (n * length ws) from xs) in
-        rw (cut-dues (r .cut) left e h kind, s, take-at stream more (n * stride) stream-long, drop-at stream more (n * stride) stream-long, add-one number)
+        let m = (left - used) / stride in
+        let more = pack (rep m ws) (drop (from + used / stride * length ws) xs) in
+        let s : pack (rep (left / stride) ws) (drop from xs) ≡ stream ++ more =
+        ap (λ (j : ℕ). pack (rep j ws) (drop from xs)) (whole-count (r .whole) e)
+        ∙ pack-split (used / stride) m ws (drop from xs)
+        ∙ ap (λ (l : List ℕ). stream ++ pack (rep m ws) l) (drop-drop (used / stride * length ws) from xs) in
+        rw (whole-dues (r .whole) e h, s, take-at stream more used stream-long, drop-at stream more used stream-long, add-one number)
 
     -- there is room for it
     pub section-written-room : blockLength * number + blockLength ≤ length sheet
     section-written-room = omega (arith, putting-room (r .putting) block _ next-block, block-long)
 
     -- it is put down
-    pub section-written-turn : {sheet′ : List ℕ} → sheet′ ≡ put sheet (blockLength * number) (blockOf letters kind number (payloadIn ws xs from n))
-        → SectionWritten letters first kind ws stride full count xs sheet₀ (left - n) (number + 1) (from + n * length ws) sheet′
+    pub section-written-turn : {sheet′ : List ℕ} → sheet′ ≡ put sheet (blockLength * number) (blockOf letters kind number (payloadIn ws xs from (used / stride)))
+        → SectionWritten letters first kind size bytes ws stride xs sheet₀ (left - used) (number + 1) (from + used / stride * length ws) sheet′
     unfolding block stream
     section-written-turn q =
-        let whole : left ≡ n + (left - n) = omega (arith, cut-some (r .cut) left e h) in
         record {
-          cut = r .cut;
+          whole = whole-rest (r .whole) e;
           four = r .four;
-          inside = omega (arith, r .inside, cut-some (r .cut) left e h, add-mul n (left - n) (length ws), ap (λ (j : ℕ). j * length ws) whole);
+          inside = omega (arith, r .inside, split);
           putting = putting-more (r .putting) block next-block q (omega (arith, block-long));
         }

@@ -1,4 +1,5 @@
 -- A loop that adds the two sums of a block's bytes up; both fit in 32 bits.
+-- Assumes nothing.
 use Prim.Native.Nat.{ℕ, _+_, _*_, _%_, _≤_, _<_}
 use native.Mathlib.Numerals.{add-one}
 use native.Mathlib.Omega.{arith}

@@ -3,6 +3,8 @@ ghost use mathlib.Core.Path.{_≡_};
 ghost use lib.ListN.{length};
 ghost use Prim.Native.Nat.{min};
 ghost use Rattle.blocks.specs.Block.{lettersLength, header};
+use packing::copy_to;
+use packing::write_number;
 
 pub mod check; // check.rt: Fletcher's two sums
 pub mod dues; // dues.rt: which blocks are due
@@ -53,16 +55,10 @@ fn header_of(letters: &[u8], kind: u8, number: usize, used: usize) -> [u8; HEADE
     requires { ⌜ length (now letters) ≡ lettersLength ⌝ }
     ensures { λ r. ⌜ r ≡ header (now (letters .entry)) kind number used ⌝ }
 {
-    [
-        letters[0],
-        letters[1],
-        letters[2],
-        letters[3],
-        kind,
-        0,
-        (number % 256) as u8,
-        (number / 256 % 256) as u8,
-        (used % 256) as u8,
-        (used / 256 % 256) as u8,
-    ]
+    let mut header = [0u8; HEADER_LENGTH];
+    copy_to(&mut header, 0, &letters[..LETTERS_LENGTH]);
+    header[KIND_AT] = kind;
+    write_number(&mut header, NUMBER_AT, 2, number as u64);
+    write_number(&mut header, USED_AT, 2, used as u64);
+    header
 }

@@ -39,15 +39,16 @@ pub fn read_section(
     requires { ⌜ at + section .bytes / stride * length (now widths) ≤ length (now out) ⌝ }
     ensures { λ _. ⌜ now (out .exit) ≡ put (now (out .entry)) at (unpack (rep (section .bytes / stride) (now (widths .entry))) (streamFrom (sectionDues section) (drop (blockLength * first) (now (sheet .entry))))) ⌝ }
 {
-    let full = section.size / stride;
-    let mut left = section.bytes / stride;
+    let size = section.size;
+    let mut left = section.bytes;
     let mut number = first;
     let mut to = at;
     while left > 0 {
-        let count = least(full, left);
-        let bytes = payload(sheet, number, count * stride);
+        let used = least(size, left);
+        let bytes = payload(sheet, number, used);
+        let count = used / stride;
         read_records(bytes, widths, stride, count, out, to);
-        left -= count;
+        left -= used;
         number += 1;
         to += count * widths.len();
     }

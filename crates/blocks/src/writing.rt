@@ -106,12 +106,13 @@ pub fn write_section(
     ensures { λ _. ⌜ now (sheet .exit) ≡ put (now (sheet .entry)) (blockLength * first) (sheetFrom (now (letters .entry)) first (sectionDues section) (pack (rep (section .bytes / stride) (now (widths .entry))) (now (numbers .entry)))) ⌝ }
 {
     let kind = section.kind;
-    let full = section.size / stride;
-    let mut left = section.bytes / stride;
+    let size = section.size;
+    let mut left = section.bytes;
     let mut number = first;
     let mut from = 0;
     while left > 0 {
-        let count = least(full, left);
+        let used = least(size, left);
+        let count = used / stride;
         write_block(
             sheet,
             letters,
@@ -123,7 +124,7 @@ pub fn write_section(
             from,
             count,
         );
-        left -= count;
+        left -= used;
         number += 1;
         from += count * widths.len();
     }

@@ -1,60 +1,58 @@
--- Four letters are their list, and after them come the same bytes.
-use Prim.Native.Nat.{ℕ}
+-- The letters, the kind and two numbers, put down in ten zeros, are the header.
 use native.Mathlib.Omega.{arith}
-use mathlib.Core.Path.{_≡_, refl}
-use mathlib.Core.List.{List, [], _∷_, _++_}
+use mathlib.Core.Path.{sym}
 use borrow.Author.Needs.{needs}
-use lib.ListN.{length, getD}
-use Rattle.blocks.specs.Block.{header}
+use lib.ListN.{length-set}
+use lib.Seq.{length-take-le}
+use Rattle.packing.specs.Numbers.{two}
+use Rattle.blocks.specs.Block.{lettersLength, kindAt}
+use Rattle.blocks.specs.BlockLaws.{header-put}
 use Rattle.blocks.proofs.header_of.Statement.{statement}
 use Rattle.blocks.proofs.header_of.Tie as tie
 
-four-letters : (l rest : List ℕ) → length l ≡ 4 → getD l 0 0 ∷ getD l 1 0 ∷ getD l 2 0 ∷ getD l 3 0 ∷ rest ≡ l ++ rest
-four-letters (a ∷ b ∷ c ∷ d ∷ []) rest e = refl
-four-letters [] rest e = absurd (omega arith)
-four-letters (a ∷ []) rest e = absurd (omega arith)
-four-letters (a ∷ b ∷ []) rest e = absurd (omega arith)
-four-letters (a ∷ b ∷ c ∷ []) rest e = absurd (omega arith)
-four-letters (a ∷ b ∷ c ∷ d ∷ x ∷ l) rest e = absurd (omega arith)
+slice-aggregate-copy-to : tie.Need-slice-aggregate-copy-to
+slice-aggregate-copy-to c = search needs
 
-shared-slice-read-t6 : tie.Need-shared-slice-read-t6
-shared-slice-read-t6 c = search needs
+slice-aggregate-copy-to-2 : tie.Need-slice-aggregate-copy-to-2
+slice-aggregate-copy-to-2 c = let s = c .before .before .before in sym (length-take-le lettersLength (s .args .letters .now) (omega (arith, s .pre)))
 
-shared-slice-read-t8 : tie.Need-shared-slice-read-t8
-shared-slice-read-t8 c = search needs
+copy-to-requires : tie.Need-copy-to-requires
+copy-to-requires c κs = let s = c .before .before .before in omega (arith, s .pre, length-take-le lettersLength (s .args .letters .now) (omega (arith, s .pre)))
 
-shared-slice-read-t10 : tie.Need-shared-slice-read-t10
-shared-slice-read-t10 c = search needs
+array-write-header : tie.Need-array-write-header
+array-write-header c = search needs
 
-shared-slice-read-t12 : tie.Need-shared-slice-read-t12
-shared-slice-read-t12 c = search needs
+slice-aggregate-write-number : tie.Need-slice-aggregate-write-number
+slice-aggregate-write-number c = search needs
 
-cast-t14 : tie.Need-cast-t14
-cast-t14 c = search needs
+write-number-requires : tie.Need-write-number-requires
+write-number-requires c κs = (two, omega (arith, c .before .before .copy-to .kept .0, length-set (c .before .before .copy-to .last .0) kindAt (c .before .before .before .before .before .before .args .kind)))
 
-cast-t17 : tie.Need-cast-t17
-cast-t17 c = search needs
+slice-aggregate-write-number-2 : tie.Need-slice-aggregate-write-number-2
+slice-aggregate-write-number-2 c = search needs
 
-cast-t19 : tie.Need-cast-t19
-cast-t19 c = search needs
-
-cast-t22 : tie.Need-cast-t22
-cast-t22 c = search needs
+write-number-requires-2 : tie.Need-write-number-requires-2
+write-number-requires-2 c κs = (two, search needs)
 
 returns : tie.Need-returns
-unfolding header
-returns c = four-letters (c .before .before .before .before .args .letters .now) _ (c .before .before .before .before .pre)
+returns c =
+    let s = c .before .before .before .before .before .before .before .before .before .before .before in
+    let a = s .args in
+    header-put (a .letters .now) (a .kind) (a .number) (a .used) (s .pre)
+    (c .before .before .before .before .before .before .before .copy-to .ensures)
+    (c .before .before .before .before .write-number .ensures)
+    (c .before .write-number2 .ensures)
 
 pub header-of-spec : {M : Type 1} → statement M
 header-of-spec =
     tie.close
     (tie.spec
-    shared-slice-read-t6
-    shared-slice-read-t8
-    shared-slice-read-t10
-    shared-slice-read-t12
-    cast-t14
-    cast-t17
-    cast-t19
-    cast-t22
+    slice-aggregate-copy-to
+    slice-aggregate-copy-to-2
+    copy-to-requires
+    array-write-header
+    slice-aggregate-write-number
+    write-number-requires
+    slice-aggregate-write-number-2
+    write-number-requires-2
     returns)
