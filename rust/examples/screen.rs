@@ -1,9 +1,9 @@
-//! A small planning screen: prints a sheet's verdicts by place, with a sentence for each, sends a flight over a border, and tries
-//! a short list of moves.
+//! A small planning screen: prints the verdicts of either sheet by place, with a sentence for each, sends a flight over a border,
+//! and tries a short list of moves.
 //!
 //! `cargo run --example screen ../sheets/a.sheet`
 
-use qirfadhun::limits::{MOST_CONSTRAINTS, MOST_EDGES, MOST_REGIONS};
+use qirfadhun::limits::{MOST_CONSTRAINTS, MOST_EDGES, MOST_FLIGHTS, MOST_REGIONS, MOST_VISITS_IN_ALL};
 use qirfadhun::{Constraint, Refusal, Sheet};
 use std::process::ExitCode;
 
@@ -36,28 +36,51 @@ fn show(bytes: &[u8]) -> Result<(), Refusal> {
     try_moves(&mut plan)
 }
 
-/// What a sheet stores, in lists as long as it needs them, and zeros for the outside areas, which it doesn't store.
+/// What a sheet stores, in lists as long as it needs them.
 struct Plan {
     regions: u64,
     sectors: u64,
     workloads: Vec<u64>,
     outside: Vec<u64>,
     edges: Vec<u64>,
+    counts: Vec<u64>,
+    visits: Vec<u64>,
     constraints: Vec<u64>,
     colouring: Vec<u64>,
 }
 
 impl Plan {
     fn read(bytes: &[u8]) -> Result<Self, Refusal> {
-        let (mut workloads, mut edges) = (vec![0; MOST_REGIONS], vec![0; 3 * MOST_EDGES]);
-        let (mut constraints, mut colouring) = (vec![0; 4 * MOST_CONSTRAINTS], vec![0; MOST_REGIONS]);
-        let head = qirfadhun::read(bytes, &mut workloads, &mut edges, &mut constraints, &mut colouring)?;
-        workloads.truncate(head.regions as usize);
-        edges.truncate(3 * head.edges as usize);
-        constraints.truncate(4 * head.constraints as usize);
-        colouring.truncate(head.regions as usize);
-        let outside = vec![0; workloads.len()];
-        Ok(Plan { regions: head.regions, sectors: head.sectors, workloads, outside, edges, constraints, colouring })
+        let mut plan = Plan {
+            regions: 0,
+            sectors: 0,
+            workloads: vec![0; MOST_REGIONS],
+            outside: vec![0; MOST_REGIONS],
+            edges: vec![0; 3 * MOST_EDGES],
+            counts: vec![0; MOST_FLIGHTS],
+            visits: vec![0; 2 * MOST_VISITS_IN_ALL],
+            constraints: vec![0; 4 * MOST_CONSTRAINTS],
+            colouring: vec![0; MOST_REGIONS],
+        };
+        let head = qirfadhun::read(
+            bytes,
+            &mut plan.workloads,
+            &mut plan.outside,
+            &mut plan.edges,
+            &mut plan.counts,
+            &mut plan.visits,
+            &mut plan.constraints,
+            &mut plan.colouring,
+        )?;
+        (plan.regions, plan.sectors) = (head.regions, head.sectors);
+        plan.workloads.truncate(head.regions as usize);
+        plan.outside.truncate(head.regions as usize);
+        plan.edges.truncate(3 * head.edges as usize);
+        plan.counts.truncate(head.flights as usize);
+        plan.visits.truncate(2 * head.visits as usize);
+        plan.constraints.truncate(4 * head.constraints as usize);
+        plan.colouring.truncate(head.regions as usize);
+        Ok(plan)
     }
 
     fn sector(&self, region: u64) -> u64 {
@@ -85,6 +108,7 @@ fn print_verdicts(sheet: &Sheet, plan: &Plan) {
         println!("{place:5}  {kind:4}  {weight:6}  {holds:5}  {violation:9}  {}", sentence(place, kind, relation, limit));
     }
     println!("The total is {}.", sheet.total());
+    println!("Area to the outside: {}. Flights: {}.", plan.outside.iter().sum::<u64>(), plan.counts.len());
 }
 
 /// What a constraint asks for.
@@ -137,7 +161,7 @@ fn send_flight(plan: &Plan) -> Result<(), Refusal> {
     println!("A flight, 300 seconds in region {a} and 45 in region {b}:");
     println!("{} Its violation is {}.", sentence(1, dwell.kind, dwell.relation, dwell.limit), verdict[1]);
     println!("{}", row_in_words(probe, &row));
-    println!("Without the flight:");
+    println!("Without this flight, by the sheet alone:");
     Ok(())
 }
 
@@ -155,8 +179,8 @@ fn try_moves(plan: &mut Plan) -> Result<(), Refusal> {
         &plan.workloads,
         &plan.outside,
         &plan.edges,
-        &[],
-        &[],
+        &plan.counts,
+        &plan.visits,
         &plan.constraints,
         &mut plan.colouring,
         moves.as_flattened(),
@@ -208,8 +232,8 @@ fn made_change(delta: i64) -> String {
 /// Why a sheet is refused.
 fn reason(Refusal { code, place }: Refusal) -> String {
     match code {
-        31 => "its length is not that of 1 to 43 whole blocks.".to_string(),
-        32 => format!("block {place} doesn't start with the letters SCTR."),
+        31 => "its length is not that of 1 to 43 whole blocks, or of 1 to 74 where it starts with the letters SCT2.".to_string(),
+        32 => format!("block {place} doesn't start with the letters SCTR, or with SCT2 in a second sheet."),
         33 => format!("the check of block {place} is not that of its bytes."),
         34 => format!("block {place} has a kind or a number that is not the one due."),
         35 => format!("block {place} has a used count that is not the one due."),
@@ -230,6 +254,8 @@ fn against(rule: u64) -> &'static str {
         5 => "an edge is outside its limits, or not above the edge before it",
         6 => "the number of constraints is not 1 to 16",
         7 => "a constraint has a kind, relation, limit or weight that it can't have",
-        _ => "a region is in a sector that the plan doesn't have",
+        8 => "a region is in a sector that the plan doesn't have",
+        13 => "the flights are over 64, or one has a visit count, a region or a dwell that it can't have",
+        _ => "an outside area is over 1,000,000",
     }
 }

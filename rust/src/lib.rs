@@ -3,6 +3,10 @@
 //! No call has a premise: whatever is handed over, it ends, and answers either what was asked for or a [`Refusal`], after which
 //! nothing is changed.
 //!
+//! There are two sheets. The first has the letters SCTR in every block; it carries no outside areas and no flights, and holds
+//! constraints of the kinds 1 to 4 only. The second has the letters SCT2, and carries a whole plan. Either is read and asked by its
+//! letters, and converted to the other where that can hold it.
+//!
 //! ```
 //! let bytes = std::fs::read("../sheets/a.sheet")?;
 //! let sheet = qirfadhun::Sheet::new(&bytes)?;
@@ -18,12 +22,16 @@
 struct Readme;
 
 mod call;
+mod converting;
 pub mod limits;
 mod raw;
 mod sheet;
+mod storing;
 
 pub use call::{call, call_records, Totals};
-pub use sheet::{read, write, write_records, Head, Sheet};
+pub use converting::{to_first, to_second};
+pub use sheet::Sheet;
+pub use storing::{read, write, write_records, write_second, Head};
 
 /// A constraint as a record; the list of four numbers has them in the same order.
 #[repr(C)]

@@ -8,8 +8,14 @@ pub const MOST_FLIGHTS: usize = 64;
 /// The visits of one flight.
 pub const MOST_VISITS: usize = 32;
 
+/// The visits of all flights.
+pub const MOST_VISITS_IN_ALL: usize = MOST_FLIGHTS * MOST_VISITS;
+
 pub const MOST_CONSTRAINTS: usize = 16;
 pub const MOST_MOVES: usize = 4_096;
 
-/// The bytes of the largest sheet: 43 blocks.
+/// The bytes of the largest first sheet: 43 blocks.
 pub const MOST_BYTES: usize = 43 * 512;
+
+/// The bytes of the largest second sheet: 74 blocks.
+pub const MOST_SECOND_BYTES: usize = 74 * 512;

@@ -20,9 +20,11 @@ pub struct ReadAnswer {
     pub sectors: u64,
     pub edges: u64,
     pub constraints: u64,
+    pub flights: u64,
+    pub visits: u64,
 }
 
-/// What writing a sheet answers.
+/// What writing or converting a sheet answers.
 #[repr(C)]
 pub struct WriteAnswer {
     pub code: u64,
@@ -90,8 +92,14 @@ extern "C" {
         sheet_len: usize,
         workloads: *mut u64,
         workloads_len: usize,
+        outside: *mut u64,
+        outside_len: usize,
         edges: *mut u64,
         edges_len: usize,
+        counts: *mut u64,
+        counts_len: usize,
+        visits: *mut u64,
+        visits_len: usize,
         constraints: *mut u64,
         constraints_len: usize,
         colouring: *mut u64,
@@ -127,6 +135,30 @@ extern "C" {
         sheet: *mut u8,
         sheet_len: usize,
     ) -> WriteAnswer;
+
+    pub fn sctr_write_second(
+        regions: u64,
+        sectors: u64,
+        workloads: *const u64,
+        workloads_len: usize,
+        outside: *const u64,
+        outside_len: usize,
+        edges: *const u64,
+        edges_len: usize,
+        counts: *const u64,
+        counts_len: usize,
+        visits: *const u64,
+        visits_len: usize,
+        constraints: *const u64,
+        constraints_len: usize,
+        colouring: *const u64,
+        colouring_len: usize,
+        sheet: *mut u8,
+        sheet_len: usize,
+    ) -> WriteAnswer;
+
+    pub fn sctr_to_second(sheet: *const u8, sheet_len: usize, converted: *mut u8, converted_len: usize) -> WriteAnswer;
+    pub fn sctr_to_first(sheet: *const u8, sheet_len: usize, converted: *mut u8, converted_len: usize) -> WriteAnswer;
 
     pub fn sctr_code(sheet: *const u8, sheet_len: usize) -> u64;
     pub fn sctr_place(sheet: *const u8, sheet_len: usize) -> u64;

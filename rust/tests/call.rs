@@ -10,8 +10,8 @@ mod reference;
 use calls::{by_reference, compare, Answer, Call, Memory};
 use cases::{all_cases, random_cases, shrink, Case, Code};
 use plans::{
-    break_list, damaged, flights_along, judged_damages, largest_plan, moves, plan_of, sheet_a_with_flights, sheet_a_with_outside,
-    Damage, Numbers, Random,
+    break_list, damaged, flights_along, judged_damages, largest_whole_plan, moves, plan_of, sheet_a_with_both,
+    sheet_a_with_flights, Damage, Numbers, Random,
 };
 use reference::*;
 
@@ -113,8 +113,7 @@ fn every_refusal_in_order() {
 
 #[test]
 fn wild_numbers_everywhere() {
-    let plan = Numbers { outside: sheet_a_with_outside().outside, ..sheet_a_with_flights() };
-    let good = Call::new(plan, (1..=5).flat_map(|kind| [kind, 2, if kind < 5 { 1 } else { 0 }]).collect());
+    let good = Call::new(sheet_a_with_both(), (1..=5).flat_map(|kind| [kind, 2, if kind < 5 { 1 } else { 0 }]).collect());
     let numbers = [0, 1, 2, 3, 4, 5, 6, 7, 32, 33, 63, 64, 65, 511, 512, 513, 1_000, 1_001, 86_400, 86_401, 1_000_000, 1_000_001];
     let ends = [8, 16, 31, 32, 62, 63].map(|bits| 1 << bits);
     let mut calls = Vec::new();
@@ -187,10 +186,7 @@ fn flights_at_their_ends() {
 #[test]
 fn counts_at_their_ends() {
     let mut random = Random::new(1);
-    let plan = largest_plan(&mut random);
-    let mut plan = flights_along(&mut random, plan, vec![VISITS; FLIGHTS as usize]);
-    plan.outside.fill_with(|| random.between(0, AREA));
-    plan.constraints.chunks_mut(4).step_by(3).for_each(|four| four[0] = 5);
+    let plan = largest_whole_plan(&mut random);
     assert_eq!((plan.edges.len(), plan.visits.len(), plan.constraints.len()), (3 * 2_048, 2 * 64 * 32, 4 * 16));
     let most = moves(&mut random, &plan, MOVES as usize);
     let largest = Call::new(plan, most);

@@ -12,7 +12,7 @@ mod sheets;
 use calls::{asked, deltas, parts, rows, violation};
 use cases::Memory as _;
 use plans::{sheet_a, sheet_a_with_flights, Numbers};
-use reference::{LIMIT, WEIGHT};
+use reference::{FIRST, LIMIT, WEIGHT};
 use sheets::{reading, writing, Reading, Sheet, Writing};
 
 /// A plan of regions that have no face and weigh nothing, with these flights and one constraint on them, of weight 1.
@@ -179,29 +179,31 @@ fn every_case_of_code_13() {
 
 /// The first sheet holds kinds 1 to 4 only: 7 at the constraint in writing, 37 at 7 in reading.
 #[test]
-fn the_sheet_holds_no_kind_5() {
+fn the_first_sheet_holds_no_kind_5() {
     for (place, relation) in (1..=4).flat_map(|place| (1..=6).map(move |relation| (place, relation))) {
         let mut plan = sheet_a();
         plan.constraints[4 * place - 4..4 * place - 2].copy_from_slice(&[5, relation]);
         assert_eq!(asked(&plan, &[]).0[..2], [0, 0], "the call takes it");
         assert_eq!(written(&plan), [7, place as u64, 0]);
-        assert_eq!(read(&plan), [37, 7, 0, 0, 0, 0]);
-        assert_eq!(library::Sheet::new(&Sheet::of(plan).bytes()).unwrap_err().to_string(), "refused 37 7");
+        assert_eq!(read(&plan), REFUSED_BY_7);
+        assert_eq!(library::Sheet::new(&Sheet::of(&FIRST, plan).bytes()).unwrap_err().to_string(), "refused 37 7");
     }
     // Before 8, after 5, and after another constraint that is refused.
     let mut plan = sheet_a();
     plan.constraints[8] = 5;
     plan.colouring[0] = 3;
-    assert_eq!((written(&plan), read(&plan)), ([7, 3, 0], [37, 7, 0, 0, 0, 0]));
+    assert_eq!((written(&plan), read(&plan)), ([7, 3, 0], REFUSED_BY_7));
     plan.constraints[4..6].copy_from_slice(&[2, 6]);
-    assert_eq!((written(&plan), read(&plan)), ([7, 2, 0], [37, 7, 0, 0, 0, 0]));
+    assert_eq!((written(&plan), read(&plan)), ([7, 2, 0], REFUSED_BY_7));
     plan.edges[1] = 6;
-    assert_eq!((written(&plan), read(&plan)), ([5, 1, 0], [37, 5, 0, 0, 0, 0]));
+    assert_eq!((written(&plan), read(&plan)), ([5, 1, 0], [37, 5, 0, 0, 0, 0, 0, 0]));
 }
 
-/// What writing this plan answers, the same from all; nothing is changed.
+const REFUSED_BY_7: reading::Answer = [37, 7, 0, 0, 0, 0, 0, 0];
+
+/// What writing this plan as a first sheet answers, the same from all; nothing is changed.
 fn written(plan: &Numbers) -> writing::Answer {
-    let writing = Writing::new(plan.clone());
+    let writing = Writing::first(plan.clone());
     let [by_reference, others @ ..] = [
         writing::by_reference,
         writing::by_library,
@@ -219,9 +221,9 @@ fn written(plan: &Numbers) -> writing::Answer {
     by_reference
 }
 
-/// What reading this plan's sheet answers, the same from all; nothing is changed.
+/// What reading this plan's first sheet answers, the same from all; nothing is changed.
 fn read(plan: &Numbers) -> reading::Answer {
-    let reading = Reading::new(Sheet::of(plan.clone()));
+    let reading = Reading::new(Sheet::of(&FIRST, plan.clone()));
     let [by_reference, others @ ..] = [reading::by_reference, reading::by_library, reading::by_archive].map(|read| {
         let mut memory = reading::Memory::of(&reading);
         let answer = read(&mut memory);

@@ -10,8 +10,8 @@ mod reference;
 mod sheets;
 
 use calls::{asked, deltas, parts, rows, violation};
-use plans::{sheet_a, sheet_a_with_flights, sheet_a_with_outside, Numbers};
-use reference::{AREA, EDGES, LIMIT, REGIONS, WEIGHT};
+use plans::{sheet_a, sheet_a_with_both, sheet_a_with_flights, sheet_a_with_outside, Numbers};
+use reference::{AREA, EDGES, FIRST, LIMIT, REGIONS, SECOND, WEIGHT};
 use sheets::files;
 
 /// What sheet A's faces to the outside come to: 7, 0, 1, 0 and 3.
@@ -57,7 +57,7 @@ fn sheet_a_and_its_outside() {
     assert_eq!(rows(&plan, &[1, 6, 1, 1, 5, 3, 9, 0, 0]), [22, 0, 23, 0, 23, 0, 23, 0, 21, 0, 23, 0]);
 
     // With flights, whose one stretch that is too short adds 30.
-    let flown = Numbers { outside: plan.outside, ..sheet_a_with_flights() };
+    let flown = sheet_a_with_both();
     assert_eq!(asked(&flown, &[]).0, [0, 0, 23 + 30, 53]);
     assert_eq!(rows(&flown, &[2, 3, 2]), [0, 81 - 1 + 4, 137, 3]);
     assert_eq!(parts(&flown), [62, 55, 58, 72, 70 + 3]);
@@ -205,22 +205,26 @@ fn every_case_of_code_14() {
     }
 }
 
-/// A sheet has no outside areas: by its bytes alone it is judged as the call judges it with zeros.
+/// By its bytes alone a sheet is judged as the call judges what is read of it. A first sheet has no outside areas.
 #[test]
-fn the_sheet_has_none() {
+fn only_the_second_sheet_has_them() {
     for (sheet, bytes) in files() {
         let judged = library::Sheet::new(&bytes).expect("a good sheet");
         let (answer, memory) = asked(&sheet.plan, &[]);
-        assert_eq!((sheet.plan.outside.iter().sum::<u64>(), answer), (0, [0, 0, judged.total(), judged.total()]));
+        assert_eq!(answer, [0, 0, judged.total(), judged.total()]);
         for (place, verdict) in (1..).zip(memory.verdicts.content().chunks(2)) {
             assert_eq!([u64::from(judged.holds(place)), judged.violation(place)], verdict);
         }
         // Each face of 1 to the outside adds 1 to T.
-        let coastal = Numbers { outside: vec![1; sheet.plan.workloads.len()], ..sheet.plan.clone() };
-        assert_eq!(border(&coastal, &[]), border(&sheet.plan, &[]) + sheet.plan.regions);
+        let (inland, whole) = (sheet.plan.clone().plain(), sheet.plan.outside.iter().sum::<u64>());
+        let coastal = Numbers { outside: vec![1; inland.workloads.len()], ..inland.clone() };
+        assert_eq!(border(&coastal, &[]), border(&inland, &[]) + sheet.plan.regions);
+        assert_eq!(border(&sheet.plan, &[]), border(&inland, &[]) + whole);
+        assert!(whole == 0 || *sheet.form == SECOND);
     }
-    let sheet = sheets::Sheet::of(bordered(sheet_a_with_outside(), 0, 1)).bytes();
-    assert_eq!(library::Sheet::new(&sheet).map(|sheet| sheet.total()), Ok(2));
+    let plan = bordered(sheet_a_with_outside(), 0, 1);
+    let total = |form| library::Sheet::new(&sheets::Sheet::of(form, plan.clone()).bytes()).map(|sheet| sheet.total());
+    assert_eq!((total(&FIRST), total(&SECOND)), (Ok(2), Ok(2 + WHOLE)));
 }
 
 /// Regions 1 to 5 are in one sector, the others in the other, and all edges lie between these.

@@ -10,7 +10,7 @@ mod sheets;
 
 use calls::Call;
 use cases::{all_cases, random_cases, Case, Code};
-use plans::{damaged, judged_damages, sheet_a, sheet_a_with_flights, stored_damages, Damage, Numbers, PlanDamage};
+use plans::{damaged, judged_damages, plan, sheet_a, sheet_a_with_flights, stored_damages, Damage, Numbers, PlanDamage};
 use sheets::{writing, Writing};
 
 /// A plan of which only whole constraints are left, and what is done with it.
@@ -73,7 +73,7 @@ fn random_damaged_calls() {
 #[test]
 fn random_writings() {
     random_cases("writings by records", 3_000, |random| {
-        let mut writing = Writing::random(random);
+        let mut writing = Writing::first(plan(random));
         writing.room += random.pick(&[0, 0, 1, 512]);
         ByRecords::written(writing)
     });
@@ -82,7 +82,7 @@ fn random_writings() {
 #[test]
 fn random_damaged_writings() {
     random_cases("damaged writings by records", 5_000, |random| {
-        let mut writing = Writing::random(random);
+        let mut writing = Writing::first(plan(random));
         writing.plan.break_one(random);
         ByRecords::written(writing)
     });
@@ -107,12 +107,12 @@ fn lists_of_any_length() {
     for count in 0..=30 {
         let moves = vec![1, 2, 2, 2, 3, 2, 3, 4, 1, 4, 1, 5, 5, 2, 0];
         cases.push(ByRecords::called(Call::new(with_constraints(sheet_a_with_flights(), count), moves)));
-        cases.push(ByRecords::written(Writing::new(with_constraints(sheet_a(), count))));
+        cases.push(ByRecords::written(Writing::first(with_constraints(sheet_a(), count))));
     }
     all_cases("lists of any length", cases);
 }
 
-/// The plan with each damage alone, and with each later one besides.
+/// The plan with each damage alone, and with later ones besides.
 fn damaged_plans(plan: &Numbers, damages: Vec<PlanDamage>) -> impl Iterator<Item = Numbers> {
     let damage = |(code, place, damage): PlanDamage| -> Damage<Numbers> { (code, place, Box::new(damage)) };
     let damages: Vec<_> = damages.into_iter().map(damage).collect();
@@ -124,7 +124,7 @@ fn every_refusal_in_order() {
     let call = Call::new(sheet_a_with_flights(), vec![]);
     let calls = damaged_plans(&call.plan, judged_damages()).map(|plan| ByRecords::called(Call { plan, ..call.clone() }));
     all_cases("refused calls by records", calls);
-    let writing = Writing::new(sheet_a());
+    let writing = Writing::first(sheet_a());
     let writings =
         damaged_plans(&writing.plan, stored_damages()).map(|plan| ByRecords::written(Writing { plan, ..writing.clone() }));
     all_cases("refused writings by records", writings);

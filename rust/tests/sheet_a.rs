@@ -1,5 +1,5 @@
-//! Sheet A and its numbers: every line of document 01, asked of the reference and of the library. The text of `verdicts` is in
-//! `verdicts`.
+//! Sheet A and its numbers: every line of document 01, asked of the reference and of the library, and its bytes in both forms. The
+//! text of `verdicts` is in `verdicts`.
 
 mod calls;
 mod canary;
@@ -10,8 +10,8 @@ mod reference;
 mod sheets;
 
 use calls::asked;
-use plans::{sheet_a, Numbers};
-use reference::fletcher;
+use plans::{sheet_a, sheet_a_with_both, Numbers};
+use reference::{fletcher, Form, FIRST, SECOND};
 use sheets::{numbers_in, reading, writing, Sheet, Writing};
 
 /// The rows of these moves on sheet A.
@@ -89,19 +89,61 @@ fn fletchers_sums() {
     assert_eq!(fletcher(b"abcdefgh"), [39, 6]);
 }
 
-#[test]
-fn the_sheet_itself() {
-    let file = include_bytes!("../../sheets/a.sheet");
-    assert_eq!(Sheet::a().bytes(), file);
+/// The sheet of this plan is this file, read, written and asked by all.
+fn stored(form: &'static Form, plan: Numbers, file: &[u8]) {
+    assert_eq!(Sheet::of(form, plan.clone()).bytes(), file);
     for read in [reading::by_reference, reading::by_library, reading::by_archive] {
-        assert_eq!(numbers_in(file, read), Ok(sheet_a()));
+        assert_eq!(numbers_in(file, read), Ok(plan.clone()));
     }
     for write in [writing::by_reference, writing::by_library, writing::by_archive] {
-        let mut memory = writing::Memory::of(&Writing::new(sheet_a()));
-        assert_eq!(write(&mut memory), [0, 0, 2_560]);
+        let mut memory = writing::Memory::of(&Writing::new(form, plan.clone()));
+        assert_eq!(write(&mut memory), [0, 0, file.len() as u64]);
         assert_eq!(memory.sheet.content(), file);
     }
     let sheet = library::Sheet::new(file).expect("a good sheet");
-    assert_eq!((sheet.total(), sheet.constraints()), (15, 4));
-    assert_eq!([1, 2, 3, 4].map(|place| (sheet.holds(place), sheet.violation(place))), [(true, 0), (true, 0), (true, 0), (false, 5)]);
+    let (answer, memory) = asked(&plan, &[]);
+    assert_eq!((sheet.total(), sheet.constraints()), (answer[3], plan.constraints.len() as u64 / 4));
+    let verdicts = (1..=sheet.constraints()).flat_map(|place| [u64::from(sheet.holds(place)), sheet.violation(place)]);
+    assert_eq!(verdicts.collect::<Vec<_>>(), memory.verdicts.content());
+}
+
+#[test]
+fn the_sheet_itself() {
+    let file = include_bytes!("../../sheets/a.sheet");
+    stored(&FIRST, sheet_a(), file);
+    assert_eq!((file.len(), library::Sheet::new(file).map(|sheet| sheet.total())), (2_560, Ok(15)));
+}
+
+/// The second sheet of sheet A with outside areas, and with one flight that is 45 seconds in sector 2 and 80 in sector 1: eight
+/// blocks of the kinds 1, 2, 6, 3, 4, 5, 7 and 8.
+#[test]
+fn the_second_sheet() {
+    let file = include_bytes!("../../sheets/flights.sheet");
+    let flight = vec![4, 20, 5, 10, 4, 15, 3, 80];
+    stored(&SECOND, Numbers { counts: vec![4], visits: flight, ..sheet_a_with_both() }, file);
+    assert_eq!((file.len(), library::Sheet::new(file).map(|sheet| sheet.total())), (4_096, Ok(15 + 8 + 30)));
+
+    let used: [&[u8]; 8] = [
+        &[5, 0, 2, 0, 4, 0, 5, 0, 1, 0, 4, 0],
+        &[10, 0, 0, 0, 20, 0, 0, 0, 30, 0, 0, 0, 25, 0, 0, 0, 15, 0, 0, 0],
+        &[7, 0, 0, 0, 0, 0, 0, 0, 1, 0, 0, 0, 0, 0, 0, 0, 3, 0, 0, 0],
+        &[1, 0, 2, 0, 4, 0, 0, 0, 2, 0, 3, 0, 6, 0, 0, 0, 3, 0, 4, 0, 2, 0, 0, 0, 4, 0, 5, 0, 3, 0, 0, 0],
+        &[
+            [1, 3, 100, 0, 2, 0, 0, 0, 0, 0, 0, 0],
+            [2, 1, 1, 0, 5, 0, 0, 0, 0, 0, 0, 0],
+            [3, 1, 2, 0, 40, 0, 0, 0, 0, 0, 0, 0],
+            [4, 1, 3, 0, 55, 0, 0, 0, 0, 0, 0, 0],
+            [5, 6, 2, 0, 60, 0, 0, 0, 0, 0, 0, 0],
+        ]
+        .concat(),
+        &[1, 1, 1, 2, 2],
+        &[4],
+        &[4, 0, 20, 0, 0, 0, 5, 0, 10, 0, 0, 0, 4, 0, 15, 0, 0, 0, 3, 0, 80, 0, 0, 0],
+    ];
+    for (number, (kind, used)) in [1, 2, 6, 3, 4, 5, 7, 8].into_iter().zip(used).enumerate() {
+        let mut block = [&b"SCT2"[..], &[kind, 0, number as u8, 0, used.len() as u8, 0], used].concat();
+        block.resize(510, 0);
+        block.extend(fletcher(&block));
+        assert_eq!(file[512 * number..][..512], block, "block {number}");
+    }
 }

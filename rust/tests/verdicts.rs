@@ -1,4 +1,4 @@
-//! The program `verdicts` run on sheets, and what it prints compared with the reference's text.
+//! The program `verdicts` run on sheets of either form, and what it prints compared with the reference's text.
 
 mod canary;
 mod cases;
@@ -8,6 +8,7 @@ mod reference;
 mod sheets;
 
 use cases::{all_cases, random_cases, Case, Code};
+use plans::sheet_a;
 use reference::*;
 use sheets::{files, reading, Change, Sheet};
 use std::collections::BTreeSet;
@@ -34,7 +35,7 @@ fn printed(sheet: &[u8]) -> String {
     let mut running = program().stdin(Stdio::piped()).stdout(Stdio::piped()).spawn().expect("the program starts");
     let taken = running.stdin.take().expect("its input is open").write_all(sheet);
     // It needn't take all of a sheet that is too long.
-    assert!(taken.is_ok() || sheet.len() > BLOCKS * BLOCK, "the program takes the sheet: {taken:?}");
+    assert!(taken.is_ok() || sheet.len() > Form::of(sheet).blocks * BLOCK, "the program takes the sheet: {taken:?}");
     let output = running.wait_with_output().expect("the program ends");
     assert!(output.status.code().is_some(), "the program ends by itself: {}", output.status);
     String::from_utf8_lossy(&output.stdout).into_owned()
@@ -62,8 +63,19 @@ impl Case for Printed {
 #[test]
 fn sheet_a_in_five_lines() {
     let lines = "1 1 1 0\n2 2 1 0\n3 3 1 0\n4 4 0 5\ntotal 15\n";
-    assert_eq!(Verdicts::of(&Sheet::a().bytes()).text(), lines);
-    assert_eq!(printed(&Sheet::a().bytes()), lines);
+    for bytes in [Sheet::a(&FIRST).bytes(), Sheet::of(&SECOND, sheet_a()).bytes()] {
+        assert_eq!(Verdicts::of(&bytes).text(), lines);
+        assert_eq!(printed(&bytes), lines);
+    }
+}
+
+/// The border is 13, 8 above its limit; a stretch of 45 seconds is 15 below its own.
+#[test]
+fn outside_areas_and_a_flight_in_six_lines() {
+    let file = include_bytes!("../../sheets/flights.sheet");
+    let lines = "1 1 1 0\n2 2 0 8\n3 3 1 0\n4 4 0 5\n5 5 0 15\ntotal 53\n";
+    assert_eq!(Verdicts::of(file).text(), lines);
+    assert_eq!(printed(file), lines);
 }
 
 #[test]
@@ -73,44 +85,52 @@ fn sheet_files() {
 
 #[test]
 fn lengths() {
-    let most = BLOCKS * BLOCK;
-    let lengths = [0, 1, BLOCK - 1, BLOCK, BLOCK + 1, 5 * BLOCK + 1, most - 1, most, most + 1, most + BLOCK, 1 << 20];
-    all_cases("lengths", lengths.map(|length| Printed(Sheet::a().changed(&[Change::Length(length)]))));
+    for form in FORMS {
+        let sheet = Sheet::a(form);
+        let lengths = [sheets::lengths(sheet.blocks()), vec![1 << 20]].concat();
+        all_cases("lengths", lengths.into_iter().map(|length| Printed(sheet.changed(&[Change::Length(length)]))));
+    }
 }
 
 /// A sheet for each code from 32 on, with a place in the head and one after it.
 #[test]
 fn refused_sheets() {
-    let sheet = Sheet::a();
-    let mut sheets = Vec::new();
-    for block in [0, 3] {
-        let place = |of_block: usize| block * BLOCK + of_block;
-        sheets.push(sheet.changed(&[Change::Put(place(0), 0)]));
-        sheets.push(sheet.changed(&[Change::Put(place(511), 255)]));
-        for of_block in [4, 6, 8, 5, 509] {
-            sheets.push(sheet.disguised(&[Change::Put(place(of_block), 9)]));
+    for sheet in FORMS.map(Sheet::a) {
+        let mut sheets = Vec::new();
+        for block in [0, 3] {
+            let place = |of_block: usize| block * BLOCK + of_block;
+            sheets.push(sheet.changed(&[Change::Put(place(0), 0)]));
+            sheets.push(sheet.disguised(&[Change::Letters(block, sheet.other_form())]));
+            sheets.push(sheet.changed(&[Change::Put(place(511), 255)]));
+            for of_block in [4, 6, 8, 5, 509] {
+                sheets.push(sheet.disguised(&[Change::Put(place(of_block), 9)]));
+            }
         }
+        for number in 0..sheet.form.head {
+            sheets.push(sheet.disguised(&[Change::PutNumber(PREFIX + 2 * number, 65_535)]));
+        }
+        sheets.push(sheet.disguised(&[Change::PutNumber(PREFIX, 126)]));
+        sheets.push(sheet.disguised(&[Change::Put(PREFIX + BLOCK + 3, 255)]));
+        for payload in (2..sheet.blocks()).map(|block| PREFIX + block * BLOCK) {
+            sheets.push(sheet.disguised(&[Change::Put(payload, 255), Change::Put(payload + 3, 255)]));
+        }
+        let refused = |sheet: &Sheet| Verdicts::of(&sheet.bytes());
+        let codes: BTreeSet<u64> = sheets.iter().map(|sheet| refused(sheet).code).collect();
+        assert_eq!(codes, (32..=38).collect());
+        let rules: BTreeSet<u64> = sheets.iter().map(refused).filter(|due| due.code == 37).map(|due| due.place).collect();
+        assert_eq!(rules, (1..9).chain([13, 14]).take(if *sheet.form == FIRST { 8 } else { 10 }).collect());
+        all_cases("refused sheets", sheets.into_iter().map(Printed));
     }
-    for number in 0..4 {
-        sheets.push(sheet.disguised(&[Change::PutNumber(PREFIX + 2 * number, 65_535)]));
-    }
-    sheets.push(sheet.disguised(&[Change::PutNumber(PREFIX, 126)]));
-    for payload in [BLOCK + 3, 2 * BLOCK, 3 * BLOCK, 4 * BLOCK] {
-        sheets.push(sheet.disguised(&[Change::Put(PREFIX + payload, 255)]));
-    }
-    let codes: BTreeSet<u64> = sheets.iter().map(|sheet| Verdicts::of(&sheet.bytes()).code).collect();
-    assert_eq!(codes, (32..=38).collect());
-    all_cases("refused sheets", sheets.into_iter().map(Printed));
 }
 
 #[test]
 fn random_sheets() {
-    random_cases("sheets printed", 20, |random| Printed(Sheet::random(random)));
+    random_cases("sheets printed", 40, |random| Printed(Sheet::random(random)));
 }
 
 #[test]
 fn random_damaged_sheets() {
-    random_cases("damaged sheets printed", 20, |random| {
+    random_cases("damaged sheets printed", 40, |random| {
         let mut sheet = Sheet::random(random);
         sheet.break_some(random);
         Printed(sheet)

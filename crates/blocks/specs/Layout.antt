@@ -8,15 +8,16 @@ use mathlib.Core.List.{List, [], _∷_, _++_, map, append-assoc}
 use lib.ListN.{length, drop, length-append, length-drop, take-append-drop, drop-of-length-le}
 use lib.Seq.{drop-at, drop-drop}
 use Rattle.lists.specs.Sums.{Every}
-use Rattle.packing.specs.Numbers.{Bytes, Fits, Widths, pack, unpack, total, rep, bytes-drop, length-pack, length-fits, unpack-pack, pack-unpack}
-use Rattle.packing.specs.Cuts.{total-rep}
+use Rattle.lists.specs.SumLaws.{every-turn, every-map}
+use Rattle.packing.specs.Numbers.{Bytes, Fits, Widths, pack, unpack, total, rep, bytes-drop, length-unpack, length-pack, length-fits, unpack-pack, pack-unpack}
+use Rattle.packing.specs.Cuts.{total-rep, length-rep}
 use Rattle.refusals.specs.declared.Refusal.{Refusal}
 use Rattle.refusals.specs.Table.{none}
 use Rattle.blocks.specs.declared.Section.{Section}
 use Rattle.blocks.specs.declared.Due.{Due}
 use Rattle.blocks.specs.Block.{blockLength, lettersLength, mostPayload}
-use Rattle.blocks.specs.Section.{section, blocksOf, sectionDues, dueOf, usedAll, Sized}
-use Rattle.blocks.specs.SectionLaws.{length-dues, small-dues, used-dues}
+use Rattle.blocks.specs.Section.{section, blocksOf, sectionDues, dueOf, Small, usedAll, Sized}
+use Rattle.blocks.specs.SectionLaws.{length-dues, small-due, small-dues, used-dues}
 use Rattle.blocks.specs.Sheet.{sheetFrom, streamFrom, faultFrom}
 use Rattle.blocks.specs.SheetLaws.{later-none, fault-append, length-stream, bytes-stream, length-sheet, sheet-is, sheet-right}
 use Rattle.blocks.specs.Whole.{Whole}
@@ -36,18 +37,28 @@ sectionOf l = section (l .kind) (l .size) (l .count * total (l .widths))
 abbrev pub allDues : List Layout → List Due
 allDues ls = dueOf (map sectionOf ls)
 
+-- how many blocks it has
+abbrev pub blocksIn : Layout → ℕ
+blocksIn l = blocksOf (sectionOf l)
+
+-- numbers of a layout, written from block n on
+abbrev pub blocksAt : List ℕ → Layout → ℕ → List ℕ → List ℕ
+blocksAt letters l n xs = sheetFrom letters n (sectionDues (sectionOf l)) (pack (rep (l .count) (l .widths)) xs)
+
 -- the numbers of each layout in turn, written from block n on
 abbrev pub writtenFrom : List ℕ → ℕ → List Layout → List (List ℕ) → List ℕ
 writtenFrom letters n [] xss = []
 writtenFrom letters n (l ∷ ls) [] = []
-writtenFrom letters n (l ∷ ls) (xs ∷ xss) =
-    sheetFrom letters n (sectionDues (sectionOf l)) (pack (rep (l .count) (l .widths)) xs) ++ writtenFrom letters (n + blocksOf (sectionOf l)) ls xss
+writtenFrom letters n (l ∷ ls) (xs ∷ xss) = blocksAt letters l n xs ++ writtenFrom letters (n + blocksIn l) ls xss
+
+-- the numbers of a layout, read from block n of a sheet on
+abbrev pub numbersAt : Layout → ℕ → List ℕ → List ℕ
+numbersAt l n sheet = unpack (rep (l .count) (l .widths)) (streamFrom (sectionDues (sectionOf l)) (drop (blockLength * n) sheet))
 
 -- the numbers of each layout in turn, read from block n of a sheet on
 abbrev pub readFrom : ℕ → List Layout → List ℕ → List (List ℕ)
 readFrom n [] sheet = []
-readFrom n (l ∷ ls) sheet =
-    unpack (rep (l .count) (l .widths)) (streamFrom (sectionDues (sectionOf l)) (drop (blockLength * n) sheet)) ∷ readFrom (n + blocksOf (sectionOf l)) ls sheet
+readFrom n (l ∷ ls) sheet = numbersAt l n sheet ∷ readFrom (n + blocksIn l) ls sheet
 
 -- there are numbers for each layout, and they fit
 abbrev pub AllFit : List Layout → List (List ℕ) → Type 0
@@ -70,32 +81,55 @@ module _ {l : Layout} (p : Laid l) where
   laid-sized = record { low = p .low; high = p .high }
 
   -- and in whole records
-  pub laid-whole : Whole (sectionOf l) (l .widths) (total (l .widths))
-  laid-whole =
-      record {
+  pub laid-whole : {s : Section} → s ≡ sectionOf l → Whole s (l .widths) (total (l .widths))
+  laid-whole e =
+      rw e
+      (record {
         sized = laid-sized;
         widths = p .widths;
         sum = refl;
         some = p .some;
         full = p .full;
         all = mul-mod-left (l .count) (total (l .widths));
-      }
+      })
 
   -- as many as there are
-  pub laid-count : sectionOf l .bytes / total (l .widths) ≡ l .count
-  laid-count = mul-div-cancel (l .count) (p .some)
+  pub laid-count : {s : Section} → s ≡ sectionOf l → s .bytes / total (l .widths) ≡ l .count
+  laid-count e = rw e (mul-div-cancel (l .count) (p .some))
 
-  length-own : length (sectionDues (sectionOf l)) ≡ blocksOf (sectionOf l)
-  length-own = length-dues (l .kind) (l .size) (blocksOf (sectionOf l)) (sectionOf l .bytes)
+  -- the section's records, as they are read
+  pub laid-read : {s : Section} → s ≡ sectionOf l → (n : ℕ) (sheet : List ℕ)
+      → unpack (rep (s .bytes / total (l .widths)) (l .widths)) (streamFrom (sectionDues s) (drop (blockLength * n) sheet)) ≡ numbersAt l n sheet
+  laid-read e n sheet = rw (laid-count e, e)
+
+  -- and as they are written
+  pub laid-written : {s : Section} → s ≡ sectionOf l → (letters : List ℕ) (n : ℕ) (xs : List ℕ)
+      → sheetFrom letters n (sectionDues s) (pack (rep (s .bytes / total (l .widths)) (l .widths)) xs) ≡ blocksAt letters l n xs
+  laid-written e letters n xs = rw (laid-count e, e)
+
+  length-own : length (sectionDues (sectionOf l)) ≡ blocksIn l
+  length-own = length-dues (l .kind) (l .size) (blocksIn l) (sectionOf l .bytes)
 
   used-own : total (rep (l .count) (l .widths)) ≡ usedAll (sectionDues (sectionOf l))
   used-own = total-rep (l .count) (l .widths) ∙ sym (used-dues (sectionOf l) laid-sized)
 
-  next-drop : (n : ℕ) (sheet : List ℕ) → drop (blockLength * length (sectionDues (sectionOf l))) (drop (blockLength * n) sheet) ≡ drop (blockLength * (n + blocksOf (sectionOf l))) sheet
+  next-drop : (n : ℕ) (sheet : List ℕ) → drop (blockLength * length (sectionDues (sectionOf l))) (drop (blockLength * n) sheet) ≡ drop (blockLength * (n + blocksIn l)) sheet
   next-drop n sheet =
       let own = sectionDues (sectionOf l) in
-      let e : blockLength * n + blockLength * length own ≡ blockLength * (n + blocksOf (sectionOf l)) = omega (arith, length-own) in
+      let e : blockLength * n + blockLength * length own ≡ blockLength * (n + blocksIn l) = omega (arith, length-own) in
       drop-drop (blockLength * length own) (blockLength * n) sheet ∙ ap (λ (k : ℕ). drop k sheet) e
+
+-- the sections are sized
+pub laid-sections : (ls : List Layout) → Every Laid ls → Every Sized (map sectionOf ls)
+laid-sections ls laid = every-map Sized sectionOf ls (every-turn (λ l. laid-sized) ls laid)
+
+-- so no block is used for more than a payload
+pub laid-small : (ls : List Layout) → Every Laid ls → Small (allDues ls)
+laid-small ls laid = small-due (map sectionOf ls) (laid-sections ls laid)
+
+-- as many numbers are read as the records have
+pub length-numbers : (l : Layout) (n : ℕ) (sheet : List ℕ) → length (numbersAt l n sheet) ≡ l .count * length (l .widths)
+length-numbers l n sheet = length-unpack (rep (l .count) (l .widths)) _ ∙ length-rep (l .count) (l .widths)
 
 module _ (letters : List ℕ) (four : length letters ≡ lettersLength) where
   -- blocks of which none is refused are what is written of the numbers that are read from them
@@ -116,7 +150,7 @@ module _ (letters : List ℕ) (four : length letters ≡ lettersLength) where
       rw (
         pack-unpack ws stream long (bytes-stream own rest (bytes-drop (blockLength * n) sheet b)),
         sheet-is letters four n own rest small room (f .0),
-        written-read (n + blocksOf (sectionOf l)) ls sheet (laid .1) b (omega arith) (rw (next-drop (laid .0) n sheet, m) at (f .1)),
+        written-read (n + blocksIn l) ls sheet (laid .1) b (omega arith) (rw (next-drop (laid .0) n sheet, m) at (f .1)),
         ← next-drop (laid .0) n sheet,
       )
       (take-append-drop (blockLength * length own) rest)
@@ -129,9 +163,9 @@ module _ (letters : List ℕ) (four : length letters ≡ lettersLength) where
       let stream = pack (rep (l .count) (l .widths)) xs in
       omega (
         arith,
-        length-append (sheetFrom letters n own stream) (writtenFrom letters (n + blocksOf (sectionOf l)) ls xss),
+        length-append (sheetFrom letters n own stream) (writtenFrom letters (n + blocksIn l) ls xss),
         length-sheet letters four n own stream (small-dues (sectionOf l) (laid-sized (laid .0))),
-        length-written (n + blocksOf (sectionOf l)) ls xss (laid .1) (fits .1),
+        length-written (n + blocksIn l) ls xss (laid .1) (fits .1),
         length-append own (allDues ls),
       )
 
@@ -145,11 +179,11 @@ module _ (letters : List ℕ) (four : length letters ≡ lettersLength) where
       let small = small-dues (sectionOf l) (laid-sized (laid .0)) in
       let enough : length ws ≤ length xs = omega (arith, length-fits ws xs (fits .0)) in
       let blocks = sheetFrom letters n own (pack ws xs) in
-      let more = writtenFrom letters (n + blocksOf (sectionOf l)) ls xss in
+      let more = writtenFrom letters (n + blocksIn l) ls xss in
       let size : length blocks ≡ blockLength * length own = length-sheet letters four n own (pack ws xs) small in
       let m = length-own (laid .0) in
       let r = sheet-right letters four n own (pack ws xs) more small (length-pack ws xs enough ∙ used-own (laid .0)) in
-      let ih = read-written (n + blocksOf (sectionOf l)) ls xss (front ++ blocks) (laid .1) (fits .1) (length-append front blocks ∙ omega arith) in (
+      let ih = read-written (n + blocksIn l) ls xss (front ++ blocks) (laid .1) (fits .1) (length-append front blocks ∙ omega arith) in (
         fault-append letters n own (allDues ls) (blocks ++ more) ∙ rw (r .0, drop-at blocks more (blockLength * length own) size, m) (ih .0),
         ap₂ (λ (ys : List ℕ) (yss : List (List ℕ)). ys ∷ yss)
             (rw (drop-at front (blocks ++ more) (blockLength * n) k, r .1) (unpack-pack ws xs (fits .0)))

@@ -3,7 +3,7 @@
 use Prim.Native.Nat.{ℕ, _+_, _-_, _*_, _/_, _≤_, _<_, min}
 use native.Mathlib.Nat.{zero-div}
 use native.Mathlib.Omega.{arith}
-use mathlib.Core.Path.{_≡_, ap, _∙_}
+use mathlib.Core.Path.{_≡_, refl, ap, _∙_}
 use mathlib.Core.List.{List, _++_}
 use lib.ListN.{length, take, drop, length-drop}
 use lib.Seq.{drop-drop, length-take-le}
@@ -14,6 +14,7 @@ use Rattle.packing.specs.Cuts.{unpack-split, length-rep}
 use Rattle.blocks.specs.declared.Section.{Section}
 use Rattle.blocks.specs.Block.{blockLength, headerLength, payloadOf}
 use Rattle.blocks.specs.Section.{section, sectionDues, blockCount, blocksOf}
+use Rattle.blocks.specs.SectionLaws.{count-none}
 use Rattle.blocks.specs.Sheet.{blockAt, streamFrom}
 use Rattle.blocks.specs.SheetLaws.{stream-kind}
 use Rattle.blocks.specs.Whole.{Whole, whole-other, whole-used, whole-rest, whole-count, whole-small, whole-dues, whole-blocks}
@@ -26,7 +27,8 @@ numbersIn sheet number s ws stride =
 -- `left` bytes of the section are left to read from block `number` on, and their numbers go from index `to` on; what kind it has does not matter
 pub record SectionRead (sheet : List ℕ) (first size bytes : ℕ) (ws : List ℕ) (stride : ℕ) (out₀ : List ℕ) (at left number to : ℕ) (out : List ℕ) : Type 0 where
   pub whole : Whole (section 0 size left) ws stride
-  pub inside : blockLength * (number + blockCount size left) ≤ length sheet
+  pub inside : blockLength * (first + blockCount size bytes) ≤ length sheet
+  pub blocks : number + blockCount size left ≡ first + blockCount size bytes
   pub putting : Putting out₀ at (numbersIn sheet first (section 0 size bytes) ws stride) out to (numbersIn sheet number (section 0 size left) ws stride)
 
 -- all are left
@@ -37,11 +39,16 @@ section-read-start {s} {ws} {stride} w {sheet} {first = first} b o =
     record {
       whole = whole-other w (w .all);
       inside = b;
+      blocks = refl;
       putting = putting-start (omega (arith, length-unpack (rep (s .bytes / stride) ws) stream, length-rep (s .bytes / stride) ws));
     }
 
 module _ {sheet ws out₀ out : List ℕ} {first size bytes stride at left number to : ℕ} (r : SectionRead sheet first size bytes ws stride out₀ at left number to out) where
-  -- none is left, whatever the kind
+  -- none is left: the next block is the one after the section
+  pub section-read-after : left ≡ 0 → number ≡ first + blockCount size bytes
+  section-read-after e = omega (arith, r .blocks, ap (blockCount size) e, count-none size (r .whole .sized .low))
+
+  -- and all numbers are put down, whatever the kind
   pub section-read-end : left ≡ 0 → (kind : ℕ) → out ≡ put out₀ at (unpack (rep (bytes / stride) ws) (streamFrom (sectionDues (section kind size bytes)) (drop (blockLength * first) sheet)))
   section-read-end e kind =
       putting-end (r .putting) (rw (e, zero-div stride))
@@ -53,7 +60,7 @@ module _ {sheet ws out₀ out : List ℕ} {first size bytes stride at left numbe
 
     -- the next block lies in the sheet
     pub section-read-block : blockLength * number + blockLength ≤ length sheet
-    section-read-block = omega (arith, r .inside, whole-blocks (r .whole) e h)
+    section-read-block = omega (arith, r .inside, r .blocks, whole-blocks (r .whole) e h)
 
     long : length payload ≡ used
     unfolding payload
@@ -91,6 +98,7 @@ module _ {sheet ws out₀ out : List ℕ} {first size bytes stride at left numbe
       section-read-turn q =
           record {
             whole = whole-rest (r .whole) e;
-            inside = omega (arith, r .inside, whole-blocks (r .whole) e h);
+            inside = r .inside;
+            blocks = omega (arith, r .blocks, whole-blocks (r .whole) e h);
             putting = putting-more (r .putting) (unpack (rep (used / stride) ws) payload) next (q ∙ rw p) (rw (length-unpack (rep (used / stride) ws) payload, length-rep (used / stride) ws));
           }

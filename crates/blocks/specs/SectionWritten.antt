@@ -4,7 +4,7 @@ use Prim.Native.Nat.{ℕ, _+_, _-_, _*_, _/_, _≤_, _<_, min}
 use native.Mathlib.Nat.{add-mul}
 use native.Mathlib.Numerals.{add-one}
 use native.Mathlib.Omega.{arith}
-use mathlib.Core.Path.{_≡_, ap, _∙_}
+use mathlib.Core.Path.{_≡_, refl, ap, _∙_}
 use mathlib.Core.List.{List, _++_}
 use lib.ListN.{length, drop}
 use lib.Seq.{take-at, drop-at, drop-drop}
@@ -14,11 +14,11 @@ use Rattle.packing.specs.Cuts.{pack-split}
 use Rattle.blocks.specs.declared.Section.{Section}
 use Rattle.blocks.specs.Block.{blockLength, lettersLength, blockOf}
 use Rattle.blocks.specs.BlockLaws.{length-block}
-use Rattle.blocks.specs.Section.{section, sectionDues, blocksOf}
+use Rattle.blocks.specs.Section.{section, sectionDues, blockCount, blocksOf}
 use Rattle.blocks.specs.SectionLaws.{count-none, length-dues, small-dues}
 use Rattle.blocks.specs.Sheet.{sheetFrom}
 use Rattle.blocks.specs.SheetLaws.{length-sheet}
-use Rattle.blocks.specs.Whole.{Whole, whole-used, whole-rest, whole-count, whole-small, whole-dues}
+use Rattle.blocks.specs.Whole.{Whole, whole-used, whole-rest, whole-count, whole-small, whole-dues, whole-blocks}
 use Rattle.blocks.specs.Filling.{Filling, payloadIn, filling-used}
 
 -- a section's blocks from block `number` on, with records of numbers from `from` on
@@ -30,6 +30,7 @@ pub record SectionWritten (letters : List ℕ) (first kind size bytes : ℕ) (ws
   pub whole : Whole (section kind size left) ws stride
   pub four : length letters ≡ lettersLength
   pub inside : from + left / stride * length ws ≤ length xs
+  pub blocks : number + blockCount size left ≡ first + blockCount size bytes
   pub putting : Putting sheet₀ (blockLength * first) (blocksOut letters first (section kind size bytes) ws stride xs 0) sheet (blockLength * number) (blocksOut letters number (section kind size left) ws stride xs from)
 
 -- all are left
@@ -41,11 +42,16 @@ section-written-start {s} {ws} {stride} w {letters} {xs} {sheet₀} {first} four
       whole = w;
       four = four;
       inside = omega arith;
+      blocks = refl;
       putting = putting-start (omega (arith, length-dues (s .kind) (s .size) (blocksOf s) (s .bytes)));
     }
 
 module _ {letters ws xs sheet₀ sheet : List ℕ} {first kind size bytes stride left number from : ℕ} (r : SectionWritten letters first kind size bytes ws stride xs sheet₀ left number from sheet) where
-  -- none is left
+  -- none is left: the next block is the one after the section
+  pub section-written-after : left ≡ 0 → number ≡ first + blockCount size bytes
+  section-written-after e = omega (arith, r .blocks, ap (blockCount size) e, count-none size (r .whole .sized .low))
+
+  -- and all blocks are put down
   pub section-written-end : left ≡ 0 → sheet ≡ put sheet₀ (blockLength * first) (sheetFrom letters first (sectionDues (section kind size bytes)) (pack (rep (bytes / stride) ws) xs))
   section-written-end e = putting-end (r .putting) (rw (e, count-none size (r .whole .sized .low)))
 
@@ -104,5 +110,6 @@ module _ {letters ws xs sheet₀ sheet : List ℕ} {first kind size bytes stride
           whole = whole-rest (r .whole) e;
           four = r .four;
           inside = omega (arith, r .inside, split);
+          blocks = omega (arith, r .blocks, whole-blocks (r .whole) e h);
           putting = putting-more (r .putting) block next-block q (omega (arith, block-long));
         }

@@ -24,7 +24,7 @@ pub fn payload(sheet: &[u8], number: usize, used: usize) -> &[u8]
     &sheet[at..end]
 }
 
-// Puts the numbers of the section that starts at block `first`, in records of `stride` bytes, down in `out` from `at` on.
+// Puts the numbers of the section that starts at block `first`, in records of `stride` bytes, down in `out` from `at` on, and answers the block after it.
 pub fn read_section(
     sheet: &[u8],
     first: usize,
@@ -33,10 +33,11 @@ pub fn read_section(
     stride: usize,
     out: &mut [u64],
     at: usize,
-)
+) -> usize
     requires { ⌜ Whole section (now widths) stride ⌝ }
     requires { ⌜ blockLength * (first + blocksOf section) ≤ length (now sheet) ⌝ }
     requires { ⌜ at + section .bytes / stride * length (now widths) ≤ length (now out) ⌝ }
+    ensures { λ r. ⌜ r ≡ first + blocksOf section ⌝ }
     ensures { λ _. ⌜ now (out .exit) ≡ put (now (out .entry)) at (unpack (rep (section .bytes / stride) (now (widths .entry))) (streamFrom (sectionDues section) (drop (blockLength * first) (now (sheet .entry))))) ⌝ }
 {
     let size = section.size;
@@ -52,4 +53,5 @@ pub fn read_section(
         number += 1;
         to += count * widths.len();
     }
+    number
 }

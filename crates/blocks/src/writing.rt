@@ -90,7 +90,7 @@ fn write_block(
     write_check(sheet, at);
 }
 
-// Puts the blocks of a section down from block `first` on: its bytes are the numbers, in records of `stride` bytes.
+// Puts the blocks of a section down from block `first` on, and answers the block after them: its bytes are the numbers, in records of `stride` bytes.
 pub fn write_section(
     sheet: &mut [u8],
     letters: &[u8],
@@ -99,10 +99,11 @@ pub fn write_section(
     widths: &[u8],
     stride: usize,
     numbers: &[u64],
-)
+) -> usize
     requires { ⌜ (length (now letters) ≡ lettersLength) × Whole section (now widths) stride ⌝ }
     requires { ⌜ blockLength * (first + blocksOf section) ≤ length (now sheet) ⌝ }
     requires { ⌜ section .bytes / stride * length (now widths) ≤ length (now numbers) ⌝ }
+    ensures { λ r. ⌜ r ≡ first + blocksOf section ⌝ }
     ensures { λ _. ⌜ now (sheet .exit) ≡ put (now (sheet .entry)) (blockLength * first) (sheetFrom (now (letters .entry)) first (sectionDues section) (pack (rep (section .bytes / stride) (now (widths .entry))) (now (numbers .entry)))) ⌝ }
 {
     let kind = section.kind;
@@ -128,4 +129,5 @@ pub fn write_section(
         number += 1;
         from += count * widths.len();
     }
+    number
 }

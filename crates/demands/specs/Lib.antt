@@ -11,3 +11,4 @@ pub mod Tables
 pub mod Rules
 pub mod RuleLaws
 pub mod Refusals
+pub mod Converted

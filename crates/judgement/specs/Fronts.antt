@@ -2,7 +2,7 @@
 -- Assumes nothing.
 use Prim.Native.Nat.{ℕ, _+_, _-_, _*_, _/_, _≤_, _<_}
 use native.Mathlib.Omega.{arith}
-use mathlib.Core.Path.{_≡_, refl, sym, subst, _∙_}
+use mathlib.Core.Path.{_≡_, refl, sym, ap, subst, _∙_}
 use mathlib.Core.Bool.{Bool, true, false}
 use mathlib.Core.List.{List}
 use lib.Dec.{T}
@@ -14,12 +14,12 @@ use Rattle.terms.specs.Plan.{within}
 use Rattle.meaning.specs.Plan.{constraintLength, mostConstraints}
 use Rattle.meaning.specs.Moves.{verdictLength}
 use Rattle.refusals.specs.Passed.{in-limits}
-use Rattle.sheet.specs.Form.{contentsIn}
-use Rattle.sheet.specs.Reading.{sheetRefusal}
-use Rattle.sheet.specs.ContentsLaws.{valid-contents, counted-valid, limits-valid}
-use Rattle.sheet.specs.Accepted.{accepted}
+use Rattle.form.specs.declared.Head.{Head}
+use Rattle.form.specs.Form.{formIn}
+use Rattle.form.specs.ContentsLaws.{counted-in, head-read}
+use Rattle.form.specs.Accepted.{accepted}
 use Rattle.judgement.specs.declared.Judged.{Judged}
-use Rattle.judgement.specs.Judgement.{Judgement, judged, refusedFor, judgement, constraintCount, verdictAt, Promise}
+use Rattle.judgement.specs.Judgement.{contentsBy, refusalBy, Judgement, judged, refusedFor, judgement, constraintCount, verdictAt, Promise}
 use Rattle.judgement.specs.Judged.{Leaves, Told}
 use Rattle.judgement.specs.NoMoves.{length-held}
 
@@ -29,18 +29,22 @@ pub record Sized (j : Judgement) : Type 0 where
   pub verdicts-long : length (j .verdicts) ≡ verdictLength * (length (j .constraints) / constraintLength)
   pub few : length (j .constraints) / constraintLength ≤ mostConstraints
 
-sized-judged : (sheet : List ℕ) → sheetRefusal sheet .code ≡ 0 → Sized (judged sheet)
+sized-judged : (sheet : List ℕ) → refusalBy sheet .code ≡ 0 → Sized (judged sheet)
 unfolding judged
 sized-judged sheet z =
-    let k = contentsIn sheet in
-    let v = valid-contents k (accepted sheet z .valid) in
-    record { constraints-long = counted-valid k v .constraints; verdicts-long = length-held k; few = limits-valid k v .constraints .high }
+    let f = formIn sheet in
+    let e = ap (λ (h : Head). h .constraints) (head-read f sheet) in
+    record {
+      constraints-long = omega (arith, counted-in f sheet .constraints, e);
+      verdicts-long = length-held (contentsBy sheet);
+      few = omega (arith, accepted f sheet z .opened .limits .constraints .high, e);
+    }
 
 -- every judgement of a sheet is so
 pub sized : (sheet : List ℕ) → Sized (judgement sheet)
 unfolding judgement refusedFor
 sized sheet =
-    by-eqb (sheetRefusal sheet .code) 0 Sized (judged sheet) (refusedFor (sheetRefusal sheet)) (sized-judged sheet)
+    by-eqb (refusalBy sheet .code) 0 Sized (judged sheet) (refusedFor (refusalBy sheet)) (sized-judged sheet)
     (λ n. record { constraints-long = refl; verdicts-long = refl; few = omega arith })
 
 module _ {sheet cs vs : List ℕ} {r : Judged} {cs′ vs′ : List ℕ} (h : Leaves sheet cs vs r cs′ vs′) where

@@ -7,7 +7,7 @@ use lib.ListN.{length}
 use Rattle.meaning.specs.Plan.{constraintLength}
 use Rattle.meaning.specs.Kinds.{total}
 use Rattle.meaning.specs.Moves.{verdicts}
-use Rattle.sheet.specs.Reading.{over}
+use Rattle.form.specs.Over.{over}
 use Rattle.judgement.specs.declared.Judged.{Judged}
 use Rattle.judgement.specs.Judgement.{Judgement, judgement, code, place, totalOf, constraintCount, Promise}
 

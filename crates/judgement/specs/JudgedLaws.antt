@@ -1,52 +1,60 @@
--- What judging a sheet leaves, from its two ways: the reading is refused, or what it leaves is judged.
+-- What judging a sheet leaves, from its two ways: the sheet is refused, or what is held of it is judged.
 -- Assumes nothing.
 use Prim.Native.Nat.{ℕ, _/_}
 use native.Mathlib.Omega.{arith}
-use mathlib.Core.Path.{_≡_, refl, sym, ap, _∙_}
+use mathlib.Core.Path.{_≡_, refl, sym, ap, subst, _∙_}
 use mathlib.Core.List.{List}
 use borrow.Author.Tests.{eq-eqb, ne-eqb}
 use lib.ListN.{length}
 use Rattle.meaning.specs.Plan.{constraintLength}
-use Rattle.sheet.specs.Form.{Contents, countsIn, contentsIn}
-use Rattle.sheet.specs.Reading.{sheetRefusal, Input, Outcome, refusedBy, over, held, Promise}
-use Rattle.sheet.specs.RoundTrip.{counted-in}
-use Rattle.sheet.specs.Promised.{contentsLeft}
+use Rattle.refusals.specs.declared.Refusal.{Refusal}
+use Rattle.form.specs.declared.Form.the-variants.{Second}
+use Rattle.form.specs.declared.Head.{Head}
+use Rattle.form.specs.Form.{formIn, Contents, headIn}
+use Rattle.form.specs.ContentsLaws.{counted-in, second-takes}
+use Rattle.form.specs.Refusals.{contentsRefusal}
+use Rattle.form.specs.Over.{over}
+use Rattle.holding.specs.Held.{contentsHeld, Holds}
+use Rattle.holding.specs.HeldLaws.{holds-accepted}
 use Rattle.judgement.specs.declared.Judged.{Judged}
-use Rattle.judgement.specs.Judgement.{verdictsHeld, totalHeld, Judgement, judged, refusedFor, judgement}
+use Rattle.judgement.specs.Judgement.{verdictsHeld, totalHeld, contentsBy, refusalBy, Judgement, judged, refusedFor, judgement}
 use Rattle.judgement.specs.Judged.{numbers, Leaves}
-use Rattle.judgement.specs.LargestLists.{Largest, code-read, refused-read, held-read, contents-read}
 
 -- a sheet that is refused is judged so
-judgement-refused : (sheet : List ℕ) → (sheetRefusal sheet .code ≡ 0 → ⊥) → judgement sheet ≡ refusedFor (sheetRefusal sheet)
+judgement-refused : (sheet : List ℕ) → (refusalBy sheet .code ≡ 0 → ⊥) → judgement sheet ≡ refusedFor (refusalBy sheet)
 unfolding judgement
-judgement-refused sheet n = rw (ne-eqb (sheetRefusal sheet .code) 0 n)
+judgement-refused sheet n = rw (ne-eqb (refusalBy sheet .code) 0 n)
 
 -- and one that is not, by its contents
-judgement-judged : (sheet : List ℕ) → sheetRefusal sheet .code ≡ 0 → judgement sheet ≡ judged sheet
+judgement-judged : (sheet : List ℕ) → refusalBy sheet .code ≡ 0 → judgement sheet ≡ judged sheet
 unfolding judgement
-judgement-judged sheet z = rw (eq-eqb (sheetRefusal sheet .code) 0 z)
+judgement-judged sheet z = rw (eq-eqb (refusalBy sheet .code) 0 z)
 
 -- what is left, by what the sheet comes to
 leaves-by : {sheet cs vs cs′ vs′ : List ℕ} {r : Judged} {j : Judgement} → judgement sheet ≡ j → r ≡ numbers j → cs′ ≡ over (j .constraints) cs → vs′ ≡ over (j .verdicts) vs
     → Leaves sheet cs vs r cs′ vs′
 leaves-by e a c v = record { answered = rw e a; constraints-left = rw e c; verdicts-left = rw e v }
 
-module _ {i : Input} (l : Largest i) {o : Outcome} (p : Promise i o) where
+module _ (sheet : List ℕ) {r : Refusal} {held : List ℕ} (p : Holds (formIn sheet) sheet r held) where
   -- a sheet that is refused
-  pub leaves-refused : {lent : List ℕ} → (o .answer .code ≡ 0 → ⊥)
-      → Leaves (i .sheet) (i .constraints) lent (record { code = o .answer .code; place = o .answer .place; constraints = 0; total = 0 }) (o .constraints) lent
-  unfolding refusedFor refusedBy
-  leaves-refused n =
-      let e = refused-read l p n in
-      leaves-by (judgement-refused (i .sheet) (rw (code-read l p) at n)) (rw e) (rw e) refl
+  pub leaves-refused : {cs vs : List ℕ} → (r .code ≡ 0 → ⊥) → Leaves sheet cs vs (record { code = r .code; place = r .place; constraints = 0; total = 0 }) cs vs
+  unfolding refusedFor
+  leaves-refused n = leaves-by (judgement-refused sheet (rw (p .refusal) at n)) (rw (p .refusal)) refl refl
 
-  -- a sheet that is not
-  pub leaves-judged : {lent found : List ℕ} {sum : ℕ} → o .answer .code ≡ 0 → sum ≡ totalHeld (contentsLeft o) → found ≡ over (verdictsHeld (contentsLeft o)) lent
-      → Leaves (i .sheet) (i .constraints) lent (record { code = 0; place = 0; constraints = o .answer .constraints; total = sum }) (o .constraints) found
-  unfolding judged held
-  leaves-judged {lent} {sum = sum} z t v =
-      let e = held-read l p z in
-      let k = contents-read l p z in
-      let n : countsIn (i .sheet) .constraints ≡ length (contentsIn (i .sheet) .constraints) / constraintLength = omega (arith, counted-in (i .sheet) .constraints) in
-      let t′ : sum ≡ totalHeld (contentsIn (i .sheet)) = t ∙ ap totalHeld k in
-      leaves-by (judgement-judged (i .sheet) (sym (code-read l p) ∙ z)) (rw (e, n, t′)) (rw e) (v ∙ ap (λ (k : Contents). over (verdictsHeld k) lent) k)
+  module _ (z : r .code ≡ 0) where
+    -- a sheet that is not has contents that the call takes
+    pub held-taken : {h : Head} → h ≡ headIn (formIn sheet) sheet → contentsRefusal Second (contentsHeld h held) .code ≡ 0
+    held-taken e =
+        subst (λ (k : Contents). contentsRefusal Second k .code ≡ 0) (sym (rw e (p .contents z))) (second-takes (formIn sheet) (contentsBy sheet) (holds-accepted p z .valid))
+
+    -- and its constraints and the verdicts on them are left
+    pub leaves-judged : {h : Head} {cs cs′ vs vs′ : List ℕ} {sum : ℕ} → h ≡ headIn (formIn sheet) sheet → let k = contentsHeld h held in
+        cs′ ≡ over (k .constraints) cs → sum ≡ totalHeld k → vs′ ≡ over (verdictsHeld k) vs
+        → Leaves sheet cs vs (record { code = 0; place = 0; constraints = h .constraints; total = sum }) cs′ vs′
+    unfolding judged
+    leaves-judged {h} {cs} {vs = vs} e c t v =
+        let k : contentsHeld h held ≡ contentsBy sheet = rw e (p .contents z) in
+        let n : h .constraints ≡ length (contentsBy sheet .constraints) / constraintLength = rw e (omega (arith, counted-in (formIn sheet) sheet .constraints)) in
+        leaves-by (judgement-judged sheet (rw (p .refusal) at z)) (rw (n, t ∙ ap totalHeld k))
+        (c ∙ ap (λ (x : Contents). over (x .constraints) cs) k)
+        (v ∙ ap (λ (x : Contents). over (verdictsHeld x) vs) k)

@@ -7,18 +7,19 @@ use mathlib.Core.List.{List, []}
 use lib.Dec.{eqb, leb}
 use lib.ListN.{length, getD}
 use Rattle.terms.specs.Plan.{within}
-use Rattle.meaning.specs.Plan.{Plan, planOf, constraintLength, noOutside}
+use Rattle.meaning.specs.Plan.{Plan, planOf, constraintLength}
 use Rattle.meaning.specs.Kinds.{total}
 use Rattle.meaning.specs.Moves.{verdictLength, verdicts}
 use Rattle.refusals.specs.declared.Refusal.{Refusal}
 use Rattle.refusals.specs.Table.{none}
 use Rattle.report.specs.Text.{verdictText, refusedText, mostText}
-use Rattle.sheet.specs.Form.{Contents, contentsIn}
-use Rattle.sheet.specs.Reading.{sheetRefusal, over}
+use Rattle.form.specs.Form.{formIn, Contents, contentsIn}
+use Rattle.form.specs.Refusals.{sheetRefusal}
+use Rattle.form.specs.Over.{over}
 
--- the plan of some contents, which has no outside areas and no flights
+-- the plan of some contents
 abbrev pub planHeld : Contents → Plan
-planHeld k = planOf (k .R) (k .S) (k .workloads) (noOutside (k .R)) (k .edges) [] [] (k .constraints)
+planHeld k = planOf (k .R) (k .S) (k .workloads) (k .outside) (k .edges) (k .counts) (k .visits) (k .constraints)
 
 -- the verdicts on them
 abbrev pub verdictsHeld : Contents → List ℕ
@@ -27,6 +28,13 @@ verdictsHeld k = verdicts (planHeld k) (k .colouring)
 -- their total
 abbrev pub totalHeld : Contents → ℕ
 totalHeld k = total (planHeld k) (k .colouring)
+
+-- which sheet bytes are goes by their letters
+abbrev pub contentsBy : List ℕ → Contents
+contentsBy sheet = contentsIn (formIn sheet) sheet
+
+abbrev pub refusalBy : List ℕ → Refusal
+refusalBy sheet = sheetRefusal (formIn sheet) sheet
 
 -- what a sheet comes to: why it is refused, or its constraints, the verdict on each and the total
 pub record Judgement : Type 0 where
@@ -38,7 +46,7 @@ pub record Judgement : Type 0 where
 -- a sheet that is not refused has a verdict on each of its constraints, and a total
 unfoldable pub judged : List ℕ → Judgement
 judged sheet =
-    let k = contentsIn sheet in
+    let k = contentsBy sheet in
     record { refusal = none; constraints = k .constraints; verdicts = verdictsHeld k; total = totalHeld k }
 
 -- a sheet that is refused has none, and its total is 0
@@ -47,7 +55,7 @@ refusedFor r = record { refusal = r; constraints = []; verdicts = []; total = 0 
 
 -- what a sheet comes to, refused or not
 unfoldable pub judgement : List ℕ → Judgement
-judgement sheet = cond (eqb (sheetRefusal sheet .code) 0) (judged sheet) (refusedFor (sheetRefusal sheet))
+judgement sheet = cond (eqb (refusalBy sheet .code) 0) (judged sheet) (refusedFor (refusalBy sheet))
 
 -- ---- one number each
 

@@ -1,7 +1,6 @@
 pub mod Judgement
 pub mod Judged
 pub mod NoMoves
-pub mod LargestLists
 pub mod JudgedLaws
 pub mod Fronts
 pub mod Printing

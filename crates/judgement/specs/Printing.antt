@@ -8,7 +8,7 @@ use lib.ListN.{length, take}
 use Rattle.meaning.specs.Plan.{constraintLength}
 use Rattle.meaning.specs.Moves.{verdictLength}
 use Rattle.report.specs.Text.{verdictText, refusedText, mostText}
-use Rattle.sheet.specs.Reading.{over}
+use Rattle.form.specs.Over.{over}
 use Rattle.judgement.specs.declared.Judged.{Judged}
 use Rattle.judgement.specs.Judgement.{code, textOf, Printed, printed, TextPromise, left}
 use Rattle.judgement.specs.Judged.{Leaves}

@@ -1,4 +1,4 @@
-// What the planning screen learns from the bytes of a sheet alone: why it is refused, or the verdict on each of its constraints and the total; and the text that the program `verdicts` prints.
+// What the planning screen learns from the bytes of either sheet alone: why it is refused, or the verdict on each of its constraints and the total; and the text that the program `verdicts` prints.
 ghost use mathlib.Core.Path.{_≡_};
 ghost use Prim.Native.Nat.{_*_, _≤_, _<_};
 ghost use lib.ListN.{length};
@@ -6,21 +6,33 @@ ghost use Rattle.io.specs.Counts.{Counts};
 ghost use Rattle.meaning.specs.Plan.{constraintLength, mostConstraints};
 ghost use Rattle.meaning.specs.Moves.{verdictLength};
 ghost use Rattle.report.specs.Text.{mostText};
-ghost use Rattle.sheet.specs.Form.{Contents};
-ghost use Rattle.sheet.specs.Reading.{contentsRefusal, over};
-ghost use Rattle.sheet.specs.Writing.{contents};
+ghost use Rattle.form.specs.declared.Form.the-variants.{Second};
+ghost use Rattle.form.specs.FormLaws.{Bounded};
+ghost use Rattle.form.specs.Refusals.{contentsRefusal};
+ghost use Rattle.form.specs.Over.{over};
+ghost use Rattle.holding.specs.Held.{mostHeld, contentsHeld};
 ghost use Rattle.judgement.specs.Judgement.{verdictsHeld, totalHeld, verdictAt, Promise, TextPromise, left};
 ghost use Rattle.judgement.specs.Judgement as judgement;
 ghost use Rattle.judgement.specs.Judged.{Leaves, Told};
+use form::Form;
+use form::Head;
+use holding::MOST_HELD;
+use holding::colouring_in;
+use holding::constraints_in;
+use holding::counts_in;
+use holding::edges_in;
+use holding::outside_in;
+use holding::visits_in;
+use holding::workloads_in;
+use lists::copy;
 use reader::read;
 use report::MOST_TEXT;
 use report::put_refusal;
 use report::put_verdicts;
+use sheet::opening::head_in;
 use terms::in_limits;
 use terms::limits::CONSTRAINT_LENGTH;
-use terms::limits::EDGE_LENGTH;
 use terms::limits::MOST_CONSTRAINTS;
-use terms::limits::MOST_EDGES;
 use terms::limits::MOST_REGIONS;
 use terms::limits::MOST_SECTORS;
 use terms::limits::VERDICT_LENGTH;
@@ -33,35 +45,28 @@ struct Judged {
     total: u64,
 }
 
-// Puts the verdicts on contents that are not refused down at the front of the lent list, and answers their total.
-fn judge_contents(
-    regions: u64,
-    sectors: u64,
-    workloads: &[u64],
-    edges: &[u64],
-    constraints: &[u64],
-    colouring: &mut [u64],
-    verdicts: &mut [u64],
-) -> u64
-    ghost { Contents }
-    requires { λ k. ⌜ contents regions sectors (now workloads) (now edges) (now constraints) (now colouring) ≡ k ⌝ }
-    requires { λ k. ⌜ contentsRefusal k .code ≡ 0 ⌝ }
-    requires { λ k. ⌜ verdictLength * mostConstraints ≤ length (now verdicts) ⌝ }
-    ensures { λ k r. ⌜ (r ≡ totalHeld k) × (now (verdicts .exit) ≡ over (verdictsHeld k) (now (verdicts .entry))) ⌝ }
+// Puts the verdicts on what is held, which is not refused, down at the front of the lent list, and answers their total.
+fn judge_held(head: Head, held: &[u64], verdicts: &mut [u64]) -> u64
+    requires { ⌜ Bounded head × (mostHeld ≤ length (now held)) ⌝ }
+    requires { ⌜ contentsRefusal Second (contentsHeld head (now held)) .code ≡ 0 ⌝ }
+    requires { ⌜ verdictLength * mostConstraints ≤ length (now verdicts) ⌝ }
+    ensures { λ r. let k = contentsHeld head (now (held .entry)) in ⌜ (r ≡ totalHeld k) × (now (verdicts .exit) ≡ over (verdictsHeld k) (now (verdicts .entry))) ⌝ }
 {
-    let outside = [0u64; MOST_REGIONS as usize];
+    let regions = head.regions as usize;
+    let mut colouring = [0u64; MOST_REGIONS as usize];
+    copy(colouring_in(held, head), &mut colouring);
     let mut rows = [0i64; 0];
     let mut work = [0u64; MOST_REGIONS as usize + 2 * MOST_SECTORS as usize + 1];
     let answer = call::judge(
-        regions,
-        sectors,
-        workloads,
-        &outside[..regions as usize],
-        edges,
-        &[],
-        &[],
-        constraints,
-        colouring,
+        head.regions,
+        head.sectors,
+        workloads_in(held, head),
+        outside_in(held, head),
+        edges_in(held, head),
+        counts_in(held, head),
+        visits_in(held, head),
+        constraints_in(held, head),
+        &mut colouring[..regions],
         &[],
         &mut rows,
         verdicts,
@@ -76,40 +81,23 @@ fn judge_sheet(sheet: &[u8], constraints: &mut [u64], verdicts: &mut [u64]) -> J
     requires { ⌜ verdictLength * mostConstraints ≤ length (now verdicts) ⌝ }
     ensures { λ r. ⌜ Leaves (now (sheet .entry)) (now (constraints .entry)) (now (verdicts .entry)) r (now (constraints .exit)) (now (verdicts .exit)) ⌝ }
 {
-    let mut workloads = [0u64; MOST_REGIONS as usize];
-    let mut edges = [0u64; EDGE_LENGTH * MOST_EDGES as usize];
-    let mut colouring = [0u64; MOST_REGIONS as usize];
-    let answer = read(
-        sheet,
-        &mut workloads,
-        &mut edges,
-        constraints,
-        &mut colouring,
-    );
-    if answer.code != 0 {
+    let mut held = [0u64; MOST_HELD];
+    let refusal = read(sheet, &mut held);
+    if refusal.code != 0 {
         return Judged {
-            code: answer.code,
-            place: answer.place,
+            code: refusal.code,
+            place: refusal.place,
             constraints: 0,
             total: 0,
         };
     }
-    let regions = answer.regions as usize;
-    let edge_numbers = EDGE_LENGTH * answer.edges as usize;
-    let constraint_numbers = CONSTRAINT_LENGTH * answer.constraints as usize;
-    let total = judge_contents(
-        answer.regions,
-        answer.sectors,
-        &workloads[..regions],
-        &edges[..edge_numbers],
-        &constraints[..constraint_numbers],
-        &mut colouring[..regions],
-        verdicts,
-    );
+    let head = head_in(Form::of(sheet), sheet);
+    copy(constraints_in(&held, head), constraints);
+    let total = judge_held(head, &held, verdicts);
     Judged {
         code: 0,
         place: 0,
-        constraints: answer.constraints,
+        constraints: head.constraints,
         total,
     }
 }

@@ -4,3 +4,4 @@ pub mod Numbers
 pub mod Cuts
 pub mod Halves
 pub mod Records
+pub mod Puts

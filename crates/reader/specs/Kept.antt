@@ -4,8 +4,9 @@ use Prim.Native.Nat.{ℕ}
 use mathlib.Core.Path.{_≡_, sym, _∙_}
 use mathlib.Core.List.{List}
 use denote.Ref.{RefT, now}
-use Rattle.sheet.specs.Reading.{Outcome, input}
-use Rattle.sheet.specs.Reading as Reading
+use Rattle.refusals.specs.declared.Refusal.{Refusal}
+use Rattle.form.specs.Form.{formIn}
+use Rattle.holding.specs.Held.{Holds}
 use Rattle.sheet.specs.Showing as Showing
 use Rattle.reader.specs.declared.Reader.{Reader}
 
@@ -41,7 +42,6 @@ module _ {lent : RefT (List ℕ)} {n : ℕ} {r : Reader} (k : Keeps lent n r) wh
   pub keeps-shown : {p : List ℕ} → Showing.Promise (now (r .sheet)) (r .place) p → Showing.Promise (now lent) n p
   keeps-shown h = rw (k .sheet, k .place) at h
 
-  -- what is read through it is what is read of the sheet
-  pub keeps-read : {workloads edges constraints colouring : List ℕ} {o : Outcome} → Reading.Promise (input (now (r .sheet)) workloads edges constraints colouring) o
-      → Reading.Promise (input (now lent) workloads edges constraints colouring) o
-  keeps-read h = rw (k .sheet) at h
+  -- what is held through it is what is held of the sheet
+  pub keeps-held : {f : Refusal} {held : List ℕ} → Holds (formIn (now (r .sheet))) (now (r .sheet)) f held → Holds (formIn (now lent)) (now lent) f held
+  keeps-held h = rw (k .sheet) at h

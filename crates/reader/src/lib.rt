@@ -1,11 +1,13 @@
 // Reading goes through a reader, which keeps the lent sheet and its place in it. The borrow checker covers no function over a struct that holds a
 // slice, so each is proved by hand and leaves the work to one that takes the slice and the number.
 ghost use mathlib.Core.Path.{_≡_};
+ghost use Prim.Native.Nat.{_≤_};
+ghost use lib.ListN.{length};
 ghost use Rattle.sheet.specs.Showing.{pastEnd, nextPlace, Promise as Shows};
-ghost use Rattle.sheet.specs.Reading.{input, left, Promise as Reads};
+ghost use Rattle.form.specs.Form.{formIn};
+ghost use Rattle.holding.specs.Held.{mostHeld, Holds};
 ghost use Rattle.reader.specs.Kept.{Keeps};
-use sheet::Read;
-use sheet::reading;
+use refusals::Refusal;
 use sheet::showing;
 
 // A lent sheet, and the number of a block of it, from 0.
@@ -63,17 +65,12 @@ pub fn part<'a>(reader: Reader<'a>) -> &'a [u8]
     showing::block(reader.sheet, reader.place)
 }
 
-// Reads the whole sheet into the lent lists, wherever the reader stands; a reading that is refused answers why and changes nothing.
-pub fn read_all<'a>(
-    reader: Reader<'a>,
-    workloads: &mut [u64],
-    edges: &mut [u64],
-    constraints: &mut [u64],
-    colouring: &mut [u64],
-) -> Read
-    ensures { λ r. ⌜ Reads (input (now (reader .entry .sheet)) (now (workloads .entry)) (now (edges .entry)) (now (constraints .entry)) (now (colouring .entry))) (left r (now (workloads .exit)) (now (edges .exit)) (now (constraints .exit)) (now (colouring .exit))) ⌝ }
+// Holds all numbers of the sheet, wherever the reader stands, or answers what it is refused for.
+pub fn read_all<'a>(reader: Reader<'a>, held: &mut [u64]) -> Refusal
+    requires { ⌜ mostHeld ≤ length (now held) ⌝ }
+    ensures { λ r. ⌜ Holds (formIn (now (reader .entry .sheet))) (now (reader .entry .sheet)) r (now (held .exit)) ⌝ }
 {
-    reading::read(reader.sheet, workloads, edges, constraints, colouring)
+    holding::hold_either(reader.sheet, held)
 }
 
 // Shows the used payload of a block, through a reader; with plain parameters, so that a caller needs no proof by hand.
@@ -83,15 +80,10 @@ pub fn show(sheet: &[u8], number: usize) -> &[u8]
     part(moved(opened(sheet), number))
 }
 
-// Reads a sheet into the lent lists, through a reader; with plain parameters likewise.
-pub fn read(
-    sheet: &[u8],
-    workloads: &mut [u64],
-    edges: &mut [u64],
-    constraints: &mut [u64],
-    colouring: &mut [u64],
-) -> Read
-    ensures { λ r. ⌜ Reads (input (now (sheet .entry)) (now (workloads .entry)) (now (edges .entry)) (now (constraints .entry)) (now (colouring .entry))) (left r (now (workloads .exit)) (now (edges .exit)) (now (constraints .exit)) (now (colouring .exit))) ⌝ }
+// Holds all numbers of a sheet, through a reader, or answers what it is refused for; with plain parameters likewise.
+pub fn read(sheet: &[u8], held: &mut [u64]) -> Refusal
+    requires { ⌜ mostHeld ≤ length (now held) ⌝ }
+    ensures { λ r. ⌜ Holds (formIn (now (sheet .entry))) (now (sheet .entry)) r (now (held .exit)) ⌝ }
 {
-    read_all(opened(sheet), workloads, edges, constraints, colouring)
+    read_all(opened(sheet), held)
 }

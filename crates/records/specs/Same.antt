@@ -9,8 +9,9 @@ use lib.ListN.{length}
 use Rattle.meaning.specs.Plan.{mostKind, noOutside}
 use Rattle.refusals.specs.Table.{callTable, callRefusal, planRefusal}
 use Rattle.call.specs.Promise as call
-use Rattle.sheet.specs.Reading.{sheetKinds}
-use Rattle.sheet.specs.Writing as writing
+use Rattle.form.specs.declared.Form.the-variants.{First}
+use Rattle.form.specs.Form.{kindCount}
+use Rattle.writing.specs.Promise as writing
 use Rattle.records.specs.declared.Constraint.{Constraint}
 use Rattle.records.specs.Numbers.{numbersOf}
 use Rattle.records.specs.TooMany.{TooMany, plan-refused, table-alike}
@@ -57,26 +58,26 @@ module _ (R S : ℕ) (workloads outside edges counts visits colouring moves : Li
   pub judged-unique : (constraints : List Constraint) {o o′ : call.Outcome} → call.Promise (judging (numbersOf constraints)) o → call.Promise (judging (numbersOf constraints)) o′ → o ≡ o′
   judged-unique constraints = call.unique
 
--- ---- writing
+-- ---- writing a first sheet
 
 module _ (R S : ℕ) (workloads edges colouring lent : List ℕ) where
   -- the outcome of writing with these constraint numbers
   abbrev written : List ℕ → writing.Outcome
-  written numbers = writing.outcome (writing.contents R S workloads edges numbers colouring) lent
+  written numbers = writing.outcome First (writing.plain R S workloads edges numbers colouring) lent
 
   -- on a list of too many constraints writing has the same outcome whatever their numbers are
   pub written-alike : (xs ys : List ℕ) → TooMany xs → TooMany ys → written xs ≡ written ys
   unfolding writing.writeRefusal writing.outcome
   written-alike xs ys h k =
       rw (
-        table-alike sheetKinds R S workloads (noOutside R) edges [] [] colouring xs ys _ h k,
-        table-alike sheetKinds R S workloads (noOutside R) edges [] [] colouring ys ys _ k k,
-        ne-eqb (planRefusal sheetKinds R S workloads (noOutside R) edges [] [] ys colouring .code) 0 (plan-refused sheetKinds R S workloads (noOutside R) edges [] [] colouring ys k),
+        table-alike (kindCount First) R S workloads (noOutside R) edges [] [] colouring xs ys _ h k,
+        table-alike (kindCount First) R S workloads (noOutside R) edges [] [] colouring ys ys _ k k,
+        ne-eqb (planRefusal (kindCount First) R S workloads (noOutside R) edges [] [] ys colouring .code) 0 (plan-refused (kindCount First) R S workloads (noOutside R) edges [] [] colouring ys k),
       )
 
   -- where writing keeps its promise on the front of an array of records, it keeps it on their numbers
   pub written-front : (constraints : List Constraint) (array : List ℕ) {o : writing.Outcome} → array ≡ arrayOf constraints
-      → writing.Promise (writing.contents R S workloads edges (front (length constraints) array) colouring) lent o → writing.Promise (writing.contents R S workloads edges (numbersOf constraints) colouring) lent o
+      → writing.Promise First (writing.plain R S workloads edges (front (length constraints) array) colouring) lent o → writing.Promise First (writing.plain R S workloads edges (numbersOf constraints) colouring) lent o
   written-front constraints array a p =
       let e = front-same written written-alike constraints in
       let q = rw a at p in
@@ -84,10 +85,10 @@ module _ (R S : ℕ) (workloads edges colouring lent : List ℕ) where
 
   -- for a list of records and the list of its numbers both promises of writing are the same: one answer, and one content of the lent bytes
   pub written-same : (constraints : List Constraint) (numbers : List ℕ) → numbers ≡ numbersOf constraints
-      → {o o′ : writing.Outcome} → writing.Promise (writing.contents R S workloads edges numbers colouring) lent o → writing.Promise (writing.contents R S workloads edges (numbersOf constraints) colouring) lent o′ → o ≡ o′
+      → {o o′ : writing.Outcome} → writing.Promise First (writing.plain R S workloads edges numbers colouring) lent o → writing.Promise First (writing.plain R S workloads edges (numbersOf constraints) colouring) lent o′ → o ≡ o′
   written-same constraints numbers e p q = writing.unique (rw e at p) q
 
   -- for every list of records, refusals included, the promise leaves one answer and one content of the lent bytes
-  pub written-unique : (constraints : List Constraint) {o o′ : writing.Outcome} → writing.Promise (writing.contents R S workloads edges (numbersOf constraints) colouring) lent o
-      → writing.Promise (writing.contents R S workloads edges (numbersOf constraints) colouring) lent o′ → o ≡ o′
+  pub written-unique : (constraints : List Constraint) {o o′ : writing.Outcome} → writing.Promise First (writing.plain R S workloads edges (numbersOf constraints) colouring) lent o
+      → writing.Promise First (writing.plain R S workloads edges (numbersOf constraints) colouring) lent o′ → o ≡ o′
   written-unique constraints = writing.unique

@@ -2,13 +2,14 @@
 ghost use mathlib.Core.Path.{_≡_};
 ghost use Prim.Native.Nat.{min};
 ghost use Rattle.call.specs.Promise as call;
-ghost use Rattle.sheet.specs.Writing as writing;
+ghost use Rattle.form.specs.declared.Form.the-variants.{First};
+ghost use Rattle.writing.specs.Promise as writing;
 ghost use Rattle.records.specs.Copied.{mostCopied, front};
 use crate::copying::COPIED_LENGTH;
 use crate::copying::MOST_COPIED;
 use call::Answer;
-use sheet::Written;
 use terms::limits::CONSTRAINT_LENGTH;
+use writing::Written;
 
 // How many of `count` records an array has.
 fn copied_of(count: usize) -> usize
@@ -58,7 +59,7 @@ pub fn judge_front(
     )
 }
 
-// Writing with the first `count` records of the array, or with all that it has.
+// Writing a first sheet with the first `count` records of the array, or with all that it has.
 pub fn write_front(
     numbers: [u64; COPIED_LENGTH],
     count: usize,
@@ -69,10 +70,10 @@ pub fn write_front(
     colouring: &[u64],
     sheet: &mut [u8],
 ) -> Written
-    ensures { λ r. ⌜ writing.Promise (writing.contents regions sectors (now (workloads .entry)) (now (edges .entry)) (front count numbers) (now (colouring .entry))) (now (sheet .entry)) (writing.left r (now (sheet .exit))) ⌝ }
+    ensures { λ r. ⌜ writing.Promise First (writing.plain regions sectors (now (workloads .entry)) (now (edges .entry)) (front count numbers) (now (colouring .entry))) (now (sheet .entry)) (writing.left r (now (sheet .exit))) ⌝ }
 {
     let copied = copied_of(count);
-    sheet::writing::write(
+    writing::write(
         regions,
         sectors,
         workloads,

@@ -1,13 +1,14 @@
 // The calls that take the constraints as a lent list of records.
 ghost use Rattle.call.specs.Promise as call;
-ghost use Rattle.sheet.specs.Writing as writing;
+ghost use Rattle.form.specs.declared.Form.the-variants.{First};
+ghost use Rattle.writing.specs.Promise as writing;
 ghost use Rattle.records.specs.Numbers.{numbersOf};
 use call::Answer;
 use records::Constraint;
 use records::copying::array_of;
 use records::fronts::judge_front;
 use records::fronts::write_front;
-use sheet::Written;
+use writing::Written;
 
 // Judges as `sctr_call` does, with the same answers as on the list of the records' numbers.
 #[no_mangle]
@@ -46,7 +47,7 @@ pub extern "C" fn sctr_call_records(
     )
 }
 
-// Writes a plan, with the constraints as records, and its colouring into the lent bytes; a writing that is refused answers why and changes nothing.
+// Writes a plan, with the constraints as records, and its colouring into the lent bytes as a first sheet; a writing that is refused answers why and changes nothing.
 #[no_mangle]
 pub extern "C" fn sctr_write_records(
     regions: u64,
@@ -57,7 +58,7 @@ pub extern "C" fn sctr_write_records(
     colouring: &[u64],
     sheet: &mut [u8],
 ) -> Written
-    ensures { λ r. ⌜ writing.Promise (writing.contents regions sectors (now (workloads .entry)) (now (edges .entry)) (numbersOf (now (constraints .entry))) (now (colouring .entry))) (now (sheet .entry)) (writing.left r (now (sheet .exit))) ⌝ }
+    ensures { λ r. ⌜ writing.Promise First (writing.plain regions sectors (now (workloads .entry)) (now (edges .entry)) (numbersOf (now (constraints .entry))) (now (colouring .entry))) (now (sheet .entry)) (writing.left r (now (sheet .exit))) ⌝ }
 {
     write_front(
         array_of(constraints),

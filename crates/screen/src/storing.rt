@@ -1,24 +1,38 @@
-// A sheet into lists, and lists into a sheet.
-ghost use Rattle.sheet.specs.Reading as reading;
-ghost use Rattle.sheet.specs.Writing as writing;
-use sheet::Read;
-use sheet::Written;
+// A sheet into lists, lists into a sheet, and one sheet into the other.
+ghost use Rattle.form.specs.declared.Form.the-variants.{First, Second};
+ghost use Rattle.reading.specs.Promise as reading;
+ghost use Rattle.writing.specs.Promise as writing;
+ghost use Rattle.conversion.specs.Promise as conversion;
+use reading::Read;
+use writing::Written;
 
-// Reads a sheet into the lent lists; a reading that is refused answers why and changes nothing.
+// Reads either sheet, by its letters, into the lent lists; a reading that is refused answers why and changes nothing.
 #[no_mangle]
 pub extern "C" fn sctr_read(
     sheet: &[u8],
     workloads: &mut [u64],
+    outside: &mut [u64],
     edges: &mut [u64],
+    counts: &mut [u64],
+    visits: &mut [u64],
     constraints: &mut [u64],
     colouring: &mut [u64],
 ) -> Read
-    ensures { λ r. ⌜ reading.Promise (reading.input (now (sheet .entry)) (now (workloads .entry)) (now (edges .entry)) (now (constraints .entry)) (now (colouring .entry))) (reading.left r (now (workloads .exit)) (now (edges .exit)) (now (constraints .exit)) (now (colouring .exit))) ⌝ }
+    ensures { λ r. ⌜ reading.Promise (reading.input (now (sheet .entry)) (now (workloads .entry)) (now (outside .entry)) (now (edges .entry)) (now (counts .entry)) (now (visits .entry)) (now (constraints .entry)) (now (colouring .entry))) (reading.left r (now (workloads .exit)) (now (outside .exit)) (now (edges .exit)) (now (counts .exit)) (now (visits .exit)) (now (constraints .exit)) (now (colouring .exit))) ⌝ }
 {
-    reader::read(sheet, workloads, edges, constraints, colouring)
+    reading::read_sheet(
+        sheet,
+        workloads,
+        outside,
+        edges,
+        counts,
+        visits,
+        constraints,
+        colouring,
+    )
 }
 
-// Writes a plan and its colouring into the lent bytes; a writing that is refused answers why and changes nothing.
+// Writes a plan without outside areas and flights, and its colouring, into the lent bytes as a first sheet; a writing that is refused answers why and changes nothing.
 #[no_mangle]
 pub extern "C" fn sctr_write(
     regions: u64,
@@ -29,9 +43,9 @@ pub extern "C" fn sctr_write(
     colouring: &[u64],
     sheet: &mut [u8],
 ) -> Written
-    ensures { λ r. ⌜ writing.Promise (writing.contents regions sectors (now (workloads .entry)) (now (edges .entry)) (now (constraints .entry)) (now (colouring .entry))) (now (sheet .entry)) (writing.left r (now (sheet .exit))) ⌝ }
+    ensures { λ r. ⌜ writing.Promise First (writing.plain regions sectors (now (workloads .entry)) (now (edges .entry)) (now (constraints .entry)) (now (colouring .entry))) (now (sheet .entry)) (writing.left r (now (sheet .exit))) ⌝ }
 {
-    sheet::writing::write(
+    writing::write(
         regions,
         sectors,
         workloads,
@@ -40,4 +54,50 @@ pub extern "C" fn sctr_write(
         colouring,
         sheet,
     )
+}
+
+// Writes a plan and its colouring into the lent bytes as a second sheet; a writing that is refused answers why and changes nothing.
+#[no_mangle]
+pub extern "C" fn sctr_write_second(
+    regions: u64,
+    sectors: u64,
+    workloads: &[u64],
+    outside: &[u64],
+    edges: &[u64],
+    counts: &[u64],
+    visits: &[u64],
+    constraints: &[u64],
+    colouring: &[u64],
+    sheet: &mut [u8],
+) -> Written
+    ensures { λ r. ⌜ writing.Promise Second (writing.contents regions sectors (now (workloads .entry)) (now (outside .entry)) (now (edges .entry)) (now (counts .entry)) (now (visits .entry)) (now (constraints .entry)) (now (colouring .entry))) (now (sheet .entry)) (writing.left r (now (sheet .exit))) ⌝ }
+{
+    writing::write_second(
+        regions,
+        sectors,
+        workloads,
+        outside,
+        edges,
+        counts,
+        visits,
+        constraints,
+        colouring,
+        sheet,
+    )
+}
+
+// Converts a first sheet into a second one in the lent bytes; a converting that is refused answers why and changes nothing.
+#[no_mangle]
+pub extern "C" fn sctr_to_second(sheet: &[u8], converted: &mut [u8]) -> Written
+    ensures { λ r. ⌜ conversion.Promise First Second (now (sheet .entry)) (now (converted .entry)) (writing.left r (now (converted .exit))) ⌝ }
+{
+    conversion::to_second(sheet, converted)
+}
+
+// Converts a second sheet back into a first one in the lent bytes, where that carries all of it; a converting that is refused answers why and changes nothing.
+#[no_mangle]
+pub extern "C" fn sctr_to_first(sheet: &[u8], converted: &mut [u8]) -> Written
+    ensures { λ r. ⌜ conversion.Promise Second First (now (sheet .entry)) (now (converted .entry)) (writing.left r (now (converted .exit))) ⌝ }
+{
+    conversion::to_first(sheet, converted)
 }

@@ -2,7 +2,7 @@
 -- Assumes nothing.
 use Prim.Native.Nat.{ℕ, _+_, _*_, _≤_, _<_}
 use native.Mathlib.Omega.{arith}
-use mathlib.Core.Path.{_≡_, sym, _∙_}
+use mathlib.Core.Path.{_≡_, refl, sym, subst, _∙_}
 use mathlib.Core.Bool.{Bool, true, false, not, and-eq-true-iff}
 use mathlib.Core.List.{List, []}
 use borrow.Author.Tests.{eqb-true, ltb-true, ltb-false, leb-true, not-true, not-false, eq-eqb, ne-eqb, le-ltb, le-leb}
@@ -16,32 +16,34 @@ use Rattle.blocks.specs.Block.{blockLength, mostPayload, payloadOf, wrong}
 use Rattle.blocks.specs.Section.{noDue}
 use Rattle.blocks.specs.SectionLaws.{small-at}
 use Rattle.blocks.specs.Sheet.{blockAt}
-use Rattle.sheet.specs.declared.Counts.{Counts}
-use Rattle.sheet.specs.Form.{letters, dues, countsIn}
-use Rattle.sheet.specs.FormLaws.{small-form}
-use Rattle.sheet.specs.Reading.{openTable}
-use Rattle.sheet.specs.Showing.{there, pastEnd, nextPlace, sound, shown, Promise}
-use Rattle.sheet.specs.Accepted.{Opened, opened}
+use Rattle.form.specs.declared.Head.{Head}
+use Rattle.form.specs.declared.Form.{Form}
+use Rattle.form.specs.Form.{letters, formIn, dues, headIn}
+use Rattle.form.specs.FormLaws.{small-form}
+use Rattle.form.specs.Firsts.{some-blocks}
+use Rattle.form.specs.Refusals.{openTable}
+use Rattle.form.specs.Accepted.{Opened, opened, opened-blocks}
+use Rattle.sheet.specs.Showing.{duesIn, there, pastEnd, nextPlace, sound, shown, Promise}
 
 -- block n is one of those due of an opened sheet
 pub record DueThere (sheet : List ℕ) (n : ℕ) : Type 0 where
-  pub opened : Opened sheet
-  pub before-last : n < length (dues (countsIn sheet))
+  pub opened : Opened (formIn sheet) sheet
+  pub before-last : n < length (duesIn sheet)
 
 -- a number is at most n exactly where n is not below it
 leb-not : (m n : ℕ) → leb m n ≡ not (ltb n m)
 leb-not m n = test-same (leb m n) (not (ltb n m)) (λ h. rw (le-ltb n m (leb-true m n h))) (λ h. le-leb m n (ltb-false n m (not-true (ltb n m) h)))
 
-module _ (sheet : List ℕ) (n : ℕ) {f : Refusal} (g : f ≡ refusal (openTable sheet)) where
+module _ (sheet : List ℕ) (n : ℕ) {f : Form} (o : f ≡ formIn sheet) {r : Refusal} (g : r ≡ refusal (openTable f sheet)) where
   -- a sheet that is not opened has no block
-  pub past-shut : {r : Bool} → (f .code ≡ 0 → ⊥) → r ≡ true → r ≡ pastEnd sheet n
+  pub past-shut : {b : Bool} → (r .code ≡ 0 → ⊥) → b ≡ true → b ≡ pastEnd sheet n
   unfolding there
-  past-shut s e = e ∙ rw (← g, ne-eqb (f .code) 0 s)
+  past-shut s e = e ∙ rw (← o, ← g, ne-eqb (r .code) 0 s)
 
   -- an opened one has those that are due
-  pub past-last : {c : Counts} {m : ℕ} {r : Bool} → f .code ≡ 0 → c ≡ countsIn sheet → m ≡ length (dues c) → r ≡ leb m n → r ≡ pastEnd sheet n
+  pub past-last : {h : Head} {m : ℕ} {b : Bool} → r .code ≡ 0 → h ≡ headIn f sheet → m ≡ length (dues f h) → b ≡ leb m n → b ≡ pastEnd sheet n
   unfolding there
-  past-last {m = m} z k l e = e ∙ rw (← g, eq-eqb (f .code) 0 z, ← k, ← l, leb-not m n)
+  past-last {m = m} z k l e = e ∙ rw (← o, ← g, eq-eqb (r .code) 0 z, ← k, ← l, leb-not m n)
 
 module _ (sheet : List ℕ) (n : ℕ) {b : Bool} (e : b ≡ pastEnd sheet n) where
   -- where the test fails there is a block, and where it passes there is none
@@ -54,7 +56,7 @@ module _ (sheet : List ℕ) (n : ℕ) {b : Bool} (e : b ≡ pastEnd sheet n) whe
   -- a place that is not past the end has one of the blocks due
   pub due-there : b ≡ false → DueThere sheet n
   unfolding there
-  due-there z = let p = and-eq-true-iff _ _ .0 (is-there z) in record { opened = opened sheet (eqb-true _ 0 (p .0)); before-last = ltb-true n _ (p .1) }
+  due-there z = let p = and-eq-true-iff _ _ .0 (is-there z) in record { opened = opened (formIn sheet) sheet (eqb-true _ 0 (p .0)); before-last = ltb-true n _ (p .1) }
 
   -- where there is no block, the place stays
   pub next-past : b ≡ true → n ≡ nextPlace sheet n
@@ -71,18 +73,31 @@ module _ (sheet : List ℕ) (n : ℕ) {b : Bool} (e : b ≡ pastEnd sheet n) whe
   unfolding shown
   shown-past z p = record { part = p ∙ rw (is-past z) }
 
-  module _ (z : b ≡ false) {c : Counts} (k : c ≡ countsIn sheet) {d : Due} (v : d ≡ getD (dues c) n noDue) {w : ℕ} (u : w ≡ wrong letters (d .kind) n (d .used) (blockAt sheet n)) where
-    -- nor of a block that is refused
-    pub shown-faulty : {p : List ℕ} → (w ≡ 0 → ⊥) → p ≡ [] → Promise sheet n p
-    unfolding sound shown
-    shown-faulty s p = record { part = p ∙ rw (is-there z, ← k, ← v, ← u, ne-eqb w 0 s) }
+  module _ (z : b ≡ false) {f : Form} (o : f ≡ formIn sheet) {h : Head} (k : h ≡ headIn f sheet) {d : Due} (v : d ≡ getD (dues f h) n noDue)
+      {ls : List ℕ} (l : ls ≡ letters f) {w : ℕ} (u : w ≡ wrong ls (d .kind) n (d .used) (blockAt sheet n))
+    where
+      found : w ≡ wrong (letters f) (d .kind) n (d .used) (blockAt sheet n)
+      found = u ∙ rw l
 
-    -- any other block shows its used payload
-    pub shown-part : {p : List ℕ} → w ≡ 0 → p ≡ payloadOf (d .used) (blockAt sheet n) → Promise sheet n p
-    unfolding sound shown
-    shown-part s p = record { part = p ∙ rw (is-there z, ← k, ← v, ← u, eq-eqb w 0 s) }
+      -- nor of a block that is refused
+      pub shown-faulty : {p : List ℕ} → (w ≡ 0 → ⊥) → p ≡ [] → Promise sheet n p
+      unfolding sound shown
+      shown-faulty s p = record { part = p ∙ rw (is-there z, ← o, ← k, ← v, ← found, ne-eqb w 0 s) }
+
+      -- any other block shows its used payload
+      pub shown-part : {p : List ℕ} → w ≡ 0 → p ≡ payloadOf (d .used) (blockAt sheet n) → Promise sheet n p
+      unfolding sound shown
+      shown-part s p = record { part = p ∙ rw (is-there z, ← o, ← k, ← v, ← found, eq-eqb w 0 s) }
 
 -- a block that is due has its bytes, and its used part is no more than a payload
-pub block-room : {sheet : List ℕ} {c : Counts} {n : ℕ} {d : Due} → DueThere sheet n → c ≡ countsIn sheet → d ≡ getD (dues c) n noDue
+pub block-room : {sheet : List ℕ} {f : Form} {h : Head} {n : ℕ} {d : Due} → DueThere sheet n → f ≡ formIn sheet → h ≡ headIn f sheet → d ≡ getD (dues f h) n noDue
     → (blockLength * n + blockLength ≤ length sheet) × (d .used ≤ mostPayload)
-block-room {c = c} {n = n} t k f = (omega (arith, t .opened .long, t .before-last), rw f (small-at (dues c) n (small-form c)))
+block-room {sheet} {f} {h} {n} t o k e = (omega (arith, t .opened .long, t .before-last), rw e (small-at (dues f h) n (small-form f h)))
+
+-- an opened sheet has a head
+pub opened-head : {sheet : List ℕ} {f : Form} → Opened f sheet → blockLength ≤ length sheet
+opened-head o = some-blocks (opened-blocks o refl)
+
+-- a sheet is opened as one of the form that it was found to have
+pub opened-as : {sheet : List ℕ} {f : Form} → f ≡ formIn sheet → Opened (formIn sheet) sheet → Opened f sheet
+opened-as {sheet} e o = subst (λ (f : Form). Opened f sheet) (sym e) o

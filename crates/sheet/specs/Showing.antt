@@ -1,4 +1,4 @@
--- Document 01, "The sheet": the used payload of a block, as that part of the sheet.
+-- Document 01, "The sheet": the used payload of a block, as that part of the sheet. Which sheet it is goes by its letters.
 -- Assumes nothing.
 use Prim.Native.Nat.{ℕ, _+_}
 use mathlib.Core.Path.{_≡_, sym, _∙_}
@@ -11,16 +11,20 @@ use Rattle.blocks.specs.declared.Due.{Due}
 use Rattle.blocks.specs.Block.{payloadOf, wrong}
 use Rattle.blocks.specs.Section.{noDue}
 use Rattle.blocks.specs.Sheet.{blockAt}
-use Rattle.sheet.specs.Form.{letters, dues, countsIn}
-use Rattle.sheet.specs.Reading.{openTable}
+use Rattle.form.specs.Form.{letters, formIn, dues, headIn}
+use Rattle.form.specs.Refusals.{openTable}
+
+-- the blocks due of a sheet
+abbrev pub duesIn : List ℕ → List Due
+duesIn sheet = dues (formIn sheet) (headIn (formIn sheet) sheet)
 
 -- what is due of block n
 abbrev pub dueAt : List ℕ → ℕ → Due
-dueAt sheet n = getD (dues (countsIn sheet)) n noDue
+dueAt sheet n = getD (duesIn sheet) n noDue
 
 -- there is a block n: length, head and block count are not refused, and the place is not past the last block
 unfoldable pub there : List ℕ → ℕ → Bool
-there sheet n = eqb (refusal (openTable sheet) .code) 0 && ltb n (length (dues (countsIn sheet)))
+there sheet n = eqb (refusal (openTable (formIn sheet) sheet) .code) 0 && ltb n (length (duesIn sheet))
 
 -- there is no block n
 abbrev pub pastEnd : List ℕ → ℕ → Bool
@@ -32,7 +36,7 @@ nextPlace sheet n = cond (there sheet n) (n + 1) n
 
 -- nothing is wrong with block n
 unfoldable pub sound : List ℕ → ℕ → Bool
-sound sheet n = eqb (wrong letters (dueAt sheet n .kind) n (dueAt sheet n .used) (blockAt sheet n)) 0
+sound sheet n = eqb (wrong (letters (formIn sheet)) (dueAt sheet n .kind) n (dueAt sheet n .used) (blockAt sheet n)) 0
 
 -- the used payload of a block that is there and sound, and nothing of any other
 unfoldable pub shown : List ℕ → ℕ → List ℕ

@@ -1,14 +1,14 @@
-// The blocks of a sheet: whether there is one at a place, and its used payload, as that part of the sheet.
+// The blocks of either sheet: whether there is one at a place, and its used payload, as that part of the sheet.
 ghost use mathlib.Core.Path.{_≡_};
 ghost use mathlib.Core.List.{[]};
 ghost use Rattle.sheet.specs.Showing.{pastEnd, nextPlace, Promise};
-use crate::form::LETTERS;
-use crate::form::all_blocks;
-use crate::form::due_of;
-use crate::opening::counts_in;
+use crate::opening::head_in;
 use crate::opening::open_refusal;
 use blocks::faults::block_fault;
 use blocks::reading::payload;
+use form::Form;
+use form::sections::all_blocks;
+use form::sections::due_of;
 
 fn empty_part(sheet: &[u8]) -> &[u8]
     ensures { λ r. ⌜ now r ≡ [] ⌝ }
@@ -20,11 +20,12 @@ fn empty_part(sheet: &[u8]) -> &[u8]
 pub fn past_end(sheet: &[u8], number: usize) -> bool
     ensures { λ r. ⌜ r ≡ pastEnd (now (sheet .entry)) number ⌝ }
 {
-    let refusal = open_refusal(sheet);
+    let form = Form::of(sheet);
+    let refusal = open_refusal(form, sheet);
     if refusal.code != 0 {
         return true;
     }
-    number >= all_blocks(counts_in(sheet))
+    number >= all_blocks(form, head_in(form, sheet))
 }
 
 // The place after a block; one where there is no block stays.
@@ -44,8 +45,9 @@ pub fn block(sheet: &[u8], number: usize) -> &[u8]
     if past_end(sheet, number) {
         return empty_part(sheet);
     }
-    let due = due_of(counts_in(sheet), number);
-    if block_fault(sheet, &LETTERS, number, due.kind, due.used) != 0 {
+    let form = Form::of(sheet);
+    let due = due_of(form, head_in(form, sheet), number);
+    if block_fault(sheet, &form.letters(), number, due.kind, due.used) != 0 {
         return empty_part(sheet);
     }
     payload(sheet, number, due.used)

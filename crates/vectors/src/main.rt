@@ -1,5 +1,5 @@
-// Runs published Fletcher vectors, and writes sheet A, to be compared with docs/SHEET.md.
-// A line of bytes has the first sum and the second; the line of the sheet has what writing answers: code, place, bytes.
+// Runs published Fletcher vectors, and writes sheet A, and sheet A with outside areas and a flight as a second sheet, to be compared with docs/SHEET.md.
+// A line of bytes has the first sum and the second; the line of a sheet has what writing answers: code, place, bytes.
 // The line of a block has its first ten bytes, its used payload and its check, in hexadecimal; a byte elsewhere that is not zero would have it refused, and its payload not shown.
 ghost use Prim.Native.Nat.{_+_, _*_, _≤_};
 ghost use lib.ListN.{length};
@@ -11,7 +11,9 @@ use blocks::check::Sums;
 use blocks::check::sums_of;
 use libc::STDOUT_FILENO;
 use sheet::showing::block;
-use sheet::writing::write;
+use writing::Written;
+use writing::write;
+use writing::write_second;
 
 const WORKLOADS: [u64; 5] = [10, 20, 30, 25, 15];
 
@@ -20,6 +22,36 @@ const EDGES: [u64; 12] = [1, 2, 4, 2, 3, 6, 3, 4, 2, 4, 5, 3];
 const CONSTRAINTS: [u64; 16] = [1, 3, 2, 100, 2, 1, 5, 1, 3, 1, 40, 2, 4, 1, 55, 3];
 
 const COLOURING: [u64; 5] = [1, 1, 1, 2, 2];
+
+// What the second sheet has besides: outside areas, a flight of four visits, and a fifth constraint.
+const OUTSIDE: [u64; 5] = [7, 0, 1, 0, 3];
+
+const COUNTS: [u64; 1] = [4];
+
+const VISITS: [u64; 8] = [4, 20, 5, 10, 4, 15, 3, 80];
+
+const FLOWN_CONSTRAINTS: [u64; 20] = [
+    1,
+    3,
+    2,
+    100,
+    2,
+    1,
+    5,
+    1,
+    3,
+    1,
+    40,
+    2,
+    4,
+    1,
+    55,
+    3,
+    5,
+    6,
+    60,
+    2,
+];
 
 fn say(text: &[u8]) {
     io::write_all(STDOUT_FILENO, text);
@@ -47,6 +79,14 @@ fn say_sums(name: &[u8], sums: Sums) {
     say(name);
     say_number(sums.first as u64);
     say_number(sums.second as u64);
+    say(b"\n");
+}
+
+fn say_written(name: &[u8], written: Written) {
+    say(name);
+    say_number(written.code);
+    say_number(written.place);
+    say_number(written.bytes);
     say(b"\n");
 }
 
@@ -94,11 +134,7 @@ fn sheet_a_lines() {
         &COLOURING,
         &mut sheet,
     );
-    say(b"sheet A:");
-    say_number(written.code);
-    say_number(written.place);
-    say_number(written.bytes);
-    say(b"\n");
+    say_written(b"sheet A:", written);
     say_block(&sheet, 0);
     say_block(&sheet, 1);
     say_block(&sheet, 2);
@@ -106,7 +142,33 @@ fn sheet_a_lines() {
     say_block(&sheet, 4);
 }
 
+fn second_sheet_lines() {
+    let mut sheet = [255u8; 8 * BLOCK_LENGTH];
+    let written = write_second(
+        5,
+        2,
+        &WORKLOADS,
+        &OUTSIDE,
+        &EDGES,
+        &COUNTS,
+        &VISITS,
+        &FLOWN_CONSTRAINTS,
+        &COLOURING,
+        &mut sheet,
+    );
+    say_written(b"sheet A, outside areas and a flight:", written);
+    say_block(&sheet, 0);
+    say_block(&sheet, 1);
+    say_block(&sheet, 2);
+    say_block(&sheet, 3);
+    say_block(&sheet, 4);
+    say_block(&sheet, 5);
+    say_block(&sheet, 6);
+    say_block(&sheet, 7);
+}
+
 fn main() {
     fletcher_lines();
     sheet_a_lines();
+    second_sheet_lines();
 }

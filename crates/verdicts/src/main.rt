@@ -1,9 +1,9 @@
 // Prints the verdict on each constraint of the sheet on standard input and the total, or why the sheet is refused.
+use form::MOST_BYTES;
 use judgement::put_text;
 use libc::STDIN_FILENO;
 use libc::STDOUT_FILENO;
 use report::MOST_TEXT;
-use sheet::MOST_BYTES;
 
 // A byte more than the longest sheet has, so that what is longer is not taken for one.
 const MOST_INPUT: usize = MOST_BYTES + 1;

@@ -5,7 +5,7 @@
 use crate::canary::Lent;
 use crate::cases::{self, compare_all, Case, Code, Memory as _};
 use crate::library::{raw, Constraint};
-use crate::plans::{lower, lower_number, moves, one_less, plan, records, with_flights, with_outside, without, Numbers, Random};
+use crate::plans::{lower, lower_number, moves, one_less, records, whole_plan, without, Numbers, Random};
 use crate::reference::MOVES;
 use crate::{library, reference};
 
@@ -29,9 +29,7 @@ impl Call {
     }
 
     pub fn random(random: &mut Random) -> Self {
-        let plan = plan(random);
-        let plan = with_outside(random, plan);
-        let plan = with_flights(random, plan);
+        let plan = whole_plan(random);
         let count = if random.once_in(400) { MOVES as usize } else { random.pick(&[0, 1, 4, 12, 40]) };
         let moves = moves(random, &plan, count);
         Call::new(plan, moves)

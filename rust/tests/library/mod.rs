@@ -2,7 +2,7 @@
 
 #![allow(dead_code, unused_imports)] // each test file takes its own part
 
-pub use qirfadhun::{call, call_records, read, write, write_records, Constraint, Sheet};
+pub use qirfadhun::{call, call_records, read, to_first, to_second, write, write_records, write_second, Constraint, Sheet};
 
 #[path = "../../src/raw.rs"]
 pub mod raw;

@@ -15,7 +15,7 @@ use crate::reference::*;
 pub use flights::{flights_along, with_flights};
 pub use outside::with_outside;
 pub use random::Random;
-pub use refused::{damaged, judged_damages, stored_damages, Damage, PlanDamage};
+pub use refused::{damaged, in_order, judged_damages, stored_damages, Damage, PlanDamage};
 pub use smaller::{lower, lower_number, one_less, without};
 pub use wild::{break_list, wild};
 
@@ -33,12 +33,23 @@ pub struct Numbers {
     pub colouring: Vec<u64>,
 }
 
-/// The lists of a plan that a sheet holds, in their order.
-pub const LISTS: [&str; 4] = ["workloads", "edges", "constraints", "colouring"];
+/// The lists of a plan, in the order of the call.
+pub const LISTS: [&str; 7] = ["workloads", "outside", "edges", "counts", "visits", "constraints", "colouring"];
 
 impl Numbers {
-    pub fn lists(&self) -> [&Vec<u64>; 4] {
-        [&self.workloads, &self.edges, &self.constraints, &self.colouring]
+    pub fn lists(&self) -> [&[u64]; 7] {
+        let Numbers { workloads, outside, edges, counts, visits, constraints, colouring, .. } = self;
+        [workloads, outside, edges, counts, visits, constraints, colouring]
+    }
+
+    pub fn lists_mut(&mut self) -> [&mut Vec<u64>; 7] {
+        let Numbers { workloads, outside, edges, counts, visits, constraints, colouring, .. } = self;
+        [workloads, outside, edges, counts, visits, constraints, colouring]
+    }
+
+    /// The plan without outside areas and flights.
+    pub fn plain(self) -> Self {
+        Numbers { outside: vec![0; self.workloads.len()], counts: vec![], visits: vec![], ..self }
     }
 }
 
@@ -76,6 +87,11 @@ pub fn sheet_a_with_flights() -> Numbers {
     numbers
 }
 
+/// Sheet A with both.
+pub fn sheet_a_with_both() -> Numbers {
+    Numbers { outside: sheet_a_with_outside().outside, ..sheet_a_with_flights() }
+}
+
 /// A plan of any size, without outside areas and flights; small ones are the most frequent.
 pub fn plan(random: &mut Random) -> Numbers {
     let most = random.pick(&[1, 6, 6, 6, 12, 12, 12, 40, 150, REGIONS]);
@@ -85,6 +101,13 @@ pub fn plan(random: &mut Random) -> Numbers {
     plan_of(random, regions, sectors)
 }
 
+/// A plan of any size, with outside areas and with flights as often as not.
+pub fn whole_plan(random: &mut Random) -> Numbers {
+    let plan = plan(random);
+    let plan = with_outside(random, plan);
+    with_flights(random, plan)
+}
+
 /// A plan as large as a plan without outside areas and flights can be.
 pub fn largest_plan(random: &mut Random) -> Numbers {
     let mut numbers = plan_of(random, REGIONS, SECTORS);
@@ -92,6 +115,15 @@ pub fn largest_plan(random: &mut Random) -> Numbers {
     numbers.edges = measured(random, pairs);
     numbers.constraints = constraints(random, &numbers, CONSTRAINTS);
     numbers
+}
+
+/// A plan as large as a plan can be.
+pub fn largest_whole_plan(random: &mut Random) -> Numbers {
+    let plan = largest_plan(random);
+    let mut plan = flights_along(random, plan, vec![VISITS; FLIGHTS as usize]);
+    plan.outside.fill_with(|| random.between(0, AREA));
+    plan.constraints.chunks_mut(4).step_by(3).for_each(|four| four[0] = 5);
+    plan
 }
 
 pub fn plan_of(random: &mut Random, regions: u64, sectors: u64) -> Numbers {

@@ -6,14 +6,17 @@ use super::Numbers;
 /// The code and place that something is refused by, and what is done to it.
 pub type Damage<T> = (u64, u64, Box<dyn Fn(&mut T)>);
 
-/// The good thing with each damage alone, then with each later one besides, which must not show: with the code and place due.
+/// The good thing with each damage alone, then with a later one of each code and place besides, which must not show: with the code
+/// and place due. Those of one code and place are taken in turn.
 pub fn damaged<T: Clone>(good: &T, damages: &[Damage<T>]) -> Vec<(u64, u64, T)> {
     let mut all = Vec::new();
     for (first, (code, place, damage)) in damages.iter().enumerate() {
         let mut alone = good.clone();
         damage(&mut alone);
         all.push((*code, *place, alone));
-        for (_, _, later) in damages[first..].iter().filter(|later| (later.0, later.1) != (*code, *place)) {
+        let later =
+            damages[first..].chunk_by(|one, next| (one.0, one.1) == (next.0, next.1)).map(|same| &same[first % same.len()]);
+        for (_, _, later) in later.filter(|later| (later.0, later.1) != (*code, *place)) {
             let mut both = good.clone();
             later(&mut both);
             damage(&mut both);
@@ -25,18 +28,18 @@ pub fn damaged<T: Clone>(good: &T, damages: &[Damage<T>]) -> Vec<(u64, u64, T)> 
 
 pub type PlanDamage = (u64, u64, fn(&mut Numbers));
 
-/// Damage to sheet A with flights, for the call.
+/// Damage to sheet A with flights, for the call and for writing the second sheet.
 pub fn judged_damages() -> Vec<PlanDamage> {
     in_order([PLAN_DAMAGES, OUTSIDE_DAMAGES, FLIGHT_DAMAGES].concat())
 }
 
-/// Damage to sheet A, for writing.
+/// Damage to sheet A, for writing the first sheet.
 pub fn stored_damages() -> Vec<PlanDamage> {
     in_order([PLAN_DAMAGES, STORED_DAMAGES].concat())
 }
 
 /// The order of checking, in which 14 comes after 3 and 13 after 5; those of one code keep theirs.
-fn in_order(mut damages: Vec<PlanDamage>) -> Vec<PlanDamage> {
+pub fn in_order(mut damages: Vec<PlanDamage>) -> Vec<PlanDamage> {
     damages.sort_by_key(|&(code, _, _)| match code {
         14 => (3, 1),
         13 => (5, 1),
@@ -144,7 +147,7 @@ const FLIGHT_DAMAGES: &[PlanDamage] = &[
     (7, 5, |plan| plan.constraints[19] = 1_001),
 ];
 
-/// Damage to sheet A that is none to a plan for the call: the sheet holds no constraint of kind 5.
+/// Damage to sheet A that is none to a plan for the call: the first sheet holds no constraint of kind 5.
 #[rustfmt::skip]
 const STORED_DAMAGES: &[PlanDamage] = &[
     (7, 4, |plan| plan.constraints[12] = 5),

@@ -28,7 +28,8 @@ pub fn call(
     verdicts: &mut [u64],
     work: &mut [u64],
 ) -> Result<Totals, Refusal> {
-    let mut plan = Plan::new(CALL_KINDS, regions, sectors, workloads, outside, edges, counts, visits, constraints, colouring)?;
+    let lists = [workloads, outside, edges, counts, visits, constraints, &*colouring];
+    let mut plan = Plan::new(CALL_KINDS, regions, sectors, lists)?;
     whole_items(9, moves, 3)?;
     demand(moves.len() as u64 / 3 <= MOVES, 9, 0)?;
     demand(rows.len() >= moves.len() / 3 * 4, 10, 0)?;

@@ -16,12 +16,10 @@ pub const LIMIT: u64 = 100_000_000_000;
 pub const WEIGHT: u64 = 1_000;
 pub const MOVES: u64 = 4_096;
 
-/// The kinds of constraints that the call takes, and those that the sheet holds.
+/// The kinds of constraints that the call takes.
 pub const CALL_KINDS: u64 = 5;
-pub const SHEET_KINDS: u64 = 4;
 
-/// A block's bytes, its bytes before the payload, and the most payload it has; the most blocks a sheet has.
+/// A block's bytes, its bytes before the payload, and the most payload it has.
 pub const BLOCK: usize = 512;
 pub const PREFIX: usize = 10;
 pub const PAYLOAD: usize = 500;
-pub const BLOCKS: usize = 43;

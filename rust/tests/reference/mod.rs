@@ -5,6 +5,8 @@
 
 mod blocks;
 mod call;
+mod converting;
+mod form;
 mod limits;
 mod meaning;
 mod plan;
@@ -13,7 +15,9 @@ mod verdicts;
 
 pub use blocks::fletcher;
 pub use call::{call, Totals};
+pub use converting::{to_first, to_second};
+pub use form::{Form, FIRST, FORMS, SECOND};
 pub use limits::*;
 pub use plan::{Plan, Refusal};
-pub use sheet::{lay_out, read, write};
+pub use sheet::{lay_out, read, write, write_second};
 pub use verdicts::Verdicts;

@@ -40,22 +40,14 @@ pub struct Plan {
     pub colouring: Vec<u64>,
 }
 
+/// The lists of a plan in the order of the call: workloads, outside areas, edges, visit counts, visits, constraints, colouring.
+pub type Lists<'a> = [&'a [u64]; 7];
+
 impl Plan {
     /// The plan of these numbers with constraints of the kinds 1 to `kinds`, or the first of codes 1 to 3, 14, 4, 5, 13 and 6 to 8
     /// that refuses them.
-    #[allow(clippy::too_many_arguments)]
-    pub fn new(
-        kinds: u64,
-        regions: u64,
-        sectors: u64,
-        workloads: &[u64],
-        outside: &[u64],
-        edges: &[u64],
-        counts: &[u64],
-        visits: &[u64],
-        constraints: &[u64],
-        colouring: &[u64],
-    ) -> Result<Plan, Refusal> {
+    pub fn new(kinds: u64, regions: u64, sectors: u64, lists: Lists) -> Result<Plan, Refusal> {
+        let [workloads, outside, edges, counts, visits, constraints, colouring] = lists;
         check_regions(regions)?;
         check_sectors(sectors)?;
         check_list(3, regions, workloads, |workload| workload <= WORKLOAD)?;
@@ -81,6 +73,23 @@ impl Plan {
                 .collect(),
             colouring: colouring.to_vec(),
         })
+    }
+
+    /// The lists that the plan was made of.
+    pub fn lists(&self) -> [Vec<u64>; 7] {
+        let edges = self.edges.iter().flat_map(|edge| [edge.a, edge.b, edge.area]);
+        let counts = self.flights.iter().map(|flight| flight.len() as u64);
+        let visits = self.flights.iter().flatten().flat_map(|visit| [visit.region, visit.dwell]);
+        let four = |constraint: &Constraint| [constraint.kind, constraint.relation, constraint.limit, constraint.weight];
+        [
+            self.workloads.clone(),
+            self.outside.clone(),
+            edges.collect(),
+            counts.collect(),
+            visits.collect(),
+            self.constraints.iter().flat_map(four).collect(),
+            self.colouring.clone(),
+        ]
     }
 }
 

@@ -1,51 +1,34 @@
-//! The sheet: laid out from lists, written where there is room for it, and read.
+//! The sheet in either form: laid out from lists, written where there is room for it, and read.
 
 use super::blocks::{block, number_of, payload};
+use super::form::{kind, Form, FIRST, KINDS, SECOND};
 use super::limits::*;
-use super::plan::{
-    check_constraint_count, check_edge_count, check_regions, check_sectors, demand, Constraint, Edge, Plan, Refusal,
-};
+use super::plan::{check_constraint_count, check_edge_count, check_regions, check_sectors, demand, Lists, Plan, Refusal};
 
-/// How many regions, sectors, edges and constraints a sheet has.
+/// How many regions, sectors, edges, constraints, flights and visits a sheet has.
 #[derive(Clone, Copy, Debug, PartialEq, Eq)]
 pub struct Head {
     pub regions: u64,
     pub sectors: u64,
     pub edges: u64,
     pub constraints: u64,
+    pub flights: u64,
+    pub visits: u64,
 }
 
-/// A kind of block: its code, the bytes of each number of a record, and the records of a full block.
-struct Kind {
-    code: u8,
-    widths: &'static [usize],
-    in_full_block: usize,
-}
-
-impl Kind {
-    fn record_bytes(&self) -> usize {
-        self.widths.iter().sum()
-    }
-}
-
-/// Head, workloads, edges, constraints, colouring.
-const KINDS: [Kind; 5] = [
-    Kind { code: 1, widths: &[2, 2, 2, 2], in_full_block: 1 },
-    Kind { code: 2, widths: &[4], in_full_block: 125 },
-    Kind { code: 3, widths: &[2, 2, 4], in_full_block: 62 },
-    Kind { code: 4, widths: &[1, 1, 2, 8], in_full_block: 41 },
-    Kind { code: 5, widths: &[1], in_full_block: 500 },
-];
-
-/// The sheet of these numbers, good or not; each is cut to the bytes that it has there.
-pub fn lay_out(regions: u64, sectors: u64, workloads: &[u64], edges: &[u64], constraints: &[u64], colouring: &[u64]) -> Vec<u8> {
-    let head = [regions, sectors, edges.len() as u64 / 3, constraints.len() as u64 / 4];
+/// The sheet of these numbers in a form, good or not; each is cut to the bytes that it has there, and what the form has no blocks
+/// for is left out.
+pub fn lay_out(form: &Form, regions: u64, sectors: u64, lists: Lists) -> Vec<u8> {
+    let [workloads, outside, edges, counts, visits, constraints, colouring] = lists;
+    let items = |list: &[u64], width: usize| (list.len() / width) as u64;
+    let head = [regions, sectors, items(edges, 3), items(constraints, 4), items(counts, 1), items(visits, 2)];
     let constraints = limit_and_weight_exchanged(constraints);
+    let by_code = [&head[..form.head], workloads, edges, &constraints, colouring, outside, counts, visits];
     let mut blocks: Vec<Vec<u8>> = Vec::new();
-    for (kind, numbers) in KINDS.iter().zip([&head[..], workloads, edges, &constraints, colouring]) {
-        let bytes = pack(numbers, kind.widths);
-        for payload in bytes.chunks(kind.in_full_block * kind.record_bytes()) {
-            blocks.push(block(kind.code, blocks.len(), payload));
+    for &code in form.kinds {
+        let bytes = pack(by_code[code - 1], kind(code).widths);
+        for payload in bytes.chunks(kind(code).in_full_block * kind(code).record_bytes()) {
+            blocks.push(block(form, code, blocks.len(), payload));
         }
     }
     blocks.concat()
@@ -73,20 +56,7 @@ fn unpack(mut bytes: &[u8], widths: &[usize]) -> Vec<u64> {
     numbers
 }
 
-/// A plan that a sheet can hold: without outside areas and flights, and with constraints of the kinds 1 to 4.
-fn stored(
-    regions: u64,
-    sectors: u64,
-    workloads: &[u64],
-    edges: &[u64],
-    constraints: &[u64],
-    colouring: &[u64],
-) -> Result<Plan, Refusal> {
-    let outside = vec![0; workloads.len()];
-    Plan::new(SHEET_KINDS, regions, sectors, workloads, &outside, edges, &[], &[], constraints, colouring)
-}
-
-/// Writing: codes 1 to 8, then 40; answers the bytes written.
+/// Writing a first sheet: codes 1 to 8, then 40; answers the bytes written.
 pub fn write(
     regions: u64,
     sectors: u64,
@@ -96,29 +66,52 @@ pub fn write(
     colouring: &[u64],
     sheet: &mut [u8],
 ) -> Result<usize, Refusal> {
-    stored(regions, sectors, workloads, edges, constraints, colouring)?;
-    let bytes = lay_out(regions, sectors, workloads, edges, constraints, colouring);
+    let outside = vec![0; workloads.len()];
+    write_in(&FIRST, regions, sectors, [workloads, &outside, edges, &[], &[], constraints, colouring], sheet)
+}
+
+/// Writing a second sheet: codes 1 to 3, 14, 4, 5, 13 and 6 to 8, then 40; answers the bytes written.
+#[allow(clippy::too_many_arguments)]
+pub fn write_second(
+    regions: u64,
+    sectors: u64,
+    workloads: &[u64],
+    outside: &[u64],
+    edges: &[u64],
+    counts: &[u64],
+    visits: &[u64],
+    constraints: &[u64],
+    colouring: &[u64],
+    sheet: &mut [u8],
+) -> Result<usize, Refusal> {
+    write_in(&SECOND, regions, sectors, [workloads, outside, edges, counts, visits, constraints, colouring], sheet)
+}
+
+fn write_in(form: &Form, regions: u64, sectors: u64, lists: Lists, sheet: &mut [u8]) -> Result<usize, Refusal> {
+    Plan::new(form.constraint_kinds, regions, sectors, lists)?;
+    let bytes = lay_out(form, regions, sectors, lists);
     demand(sheet.len() >= bytes.len(), 40, 0)?;
     sheet[..bytes.len()].copy_from_slice(&bytes);
     Ok(bytes.len())
 }
 
-/// Reading: the plan in the sheet, then 39; the lists hold its numbers from their starts.
+/// Reading either sheet: the plan in it, then 39; the lists hold its numbers from their starts.
+#[allow(clippy::too_many_arguments)]
 pub fn read(
     sheet: &[u8],
     workloads: &mut [u64],
+    outside: &mut [u64],
     edges: &mut [u64],
+    counts: &mut [u64],
+    visits: &mut [u64],
     constraints: &mut [u64],
     colouring: &mut [u64],
 ) -> Result<Head, Refusal> {
-    let plan = plan_in(sheet)?;
-    let edge_numbers: Vec<u64> = plan.edges.iter().flat_map(|&Edge { a, b, area }| [a, b, area]).collect();
-    let four = |&Constraint { kind, relation, limit, weight }: &Constraint| [kind, relation, limit, weight];
-    let constraint_numbers: Vec<u64> = plan.constraints.iter().flat_map(four).collect();
-    let read = [&plan.workloads, &edge_numbers, &constraint_numbers, &plan.colouring];
-    let lent = [workloads, edges, constraints, colouring];
+    let plan = plan_in(Form::of(sheet), sheet)?;
+    let read = plan.lists();
+    let lent = [workloads, outside, edges, counts, visits, constraints, colouring];
     demand(read.iter().zip(&lent).all(|(read, lent)| read.len() <= lent.len()), 39, 0)?;
-    for (read, lent) in read.into_iter().zip(lent) {
+    for (read, lent) in read.iter().zip(lent) {
         lent[..read.len()].copy_from_slice(read);
     }
     Ok(Head {
@@ -126,34 +119,44 @@ pub fn read(
         sectors: plan.sectors,
         edges: plan.edges.len() as u64,
         constraints: plan.constraints.len() as u64,
+        flights: plan.flights.len() as u64,
+        visits: plan.flights.iter().flatten().count() as u64,
     })
 }
 
-/// The plan and colouring that a sheet stores, or the first of codes 31 to 38 that refuses it.
-pub fn plan_in(sheet: &[u8]) -> Result<Plan, Refusal> {
+/// The plan and colouring that a sheet of this form stores, or the first of codes 31 to 38 that refuses it. How long a sheet may be
+/// goes by its own letters.
+pub fn plan_in(form: &Form, sheet: &[u8]) -> Result<Plan, Refusal> {
     let blocks: Vec<&[u8]> = sheet.chunks(BLOCK).collect();
-    demand((1..=BLOCKS).contains(&blocks.len()) && blocks.iter().all(|block| block.len() == BLOCK), 31, 0)?;
-    let head = head_in(blocks[0])?;
-    let due = due_blocks(&head);
+    let most = Form::of(sheet).blocks;
+    demand((1..=most).contains(&blocks.len()) && blocks.iter().all(|block| block.len() == BLOCK), 31, 0)?;
+    let head = head_in(form, blocks[0])?;
+    let due = due_blocks(form, &head);
     demand(blocks.len() == due.len(), 38, 0)?;
-    let mut contents: [Vec<u8>; 5] = Default::default();
-    for (number, (block, (kind, used))) in blocks.into_iter().zip(due).enumerate() {
-        contents[kind].extend(payload(block, KINDS[kind].code, number, used)?);
+    let mut by_code: [Vec<u8>; KINDS] = Default::default();
+    for (number, (block, (code, used))) in blocks.into_iter().zip(due).enumerate() {
+        by_code[code - 1].extend(payload(form, block, code, number, used)?);
     }
-    let [_, workloads, edges, constraints, colouring] = [0, 1, 2, 3, 4].map(|kind| unpack(&contents[kind], KINDS[kind].widths));
+    let numbers: [Vec<u64>; KINDS] = std::array::from_fn(|place| unpack(&by_code[place], kind(place + 1).widths));
+    let [_, workloads, edges, constraints, colouring, mut outside, counts, visits] = numbers;
+    // Where the form has no outside areas, they are 0.
+    outside.resize(head.regions as usize, 0);
     let constraints = limit_and_weight_exchanged(&constraints);
-    against_rules(stored(head.regions, head.sectors, &workloads, &edges, &constraints, &colouring))
+    let lists = [&workloads[..], &outside, &edges, &counts, &visits, &constraints, &colouring];
+    against_rules(Plan::new(form.constraint_kinds, head.regions, head.sectors, lists))
 }
 
-/// The numbers of the head, or why it is refused.
-fn head_in(block: &[u8]) -> Result<Head, Refusal> {
-    let counts = unpack(payload(block, KINDS[0].code, 0, KINDS[0].record_bytes())?, KINDS[0].widths);
-    let head = Head { regions: counts[0], sectors: counts[1], edges: counts[2], constraints: counts[3] };
-    against_rules(check_regions(head.regions))?;
-    against_rules(check_sectors(head.sectors))?;
-    against_rules(check_edge_count(head.edges))?;
-    against_rules(check_constraint_count(head.constraints))?;
-    Ok(head)
+/// The numbers of the head, or why it is refused; where the form has no flights, they are none.
+fn head_in(form: &Form, block: &[u8]) -> Result<Head, Refusal> {
+    let mut numbers = unpack(payload(form, block, 1, 0, form.head * kind(1).record_bytes())?, kind(1).widths);
+    numbers.resize(6, 0);
+    let &[regions, sectors, edges, constraints, flights, visits] = &numbers[..] else { unreachable!("six numbers") };
+    against_rules(check_regions(regions))?;
+    against_rules(check_sectors(sectors))?;
+    against_rules(check_edge_count(edges))?;
+    against_rules(check_constraint_count(constraints))?;
+    against_rules(demand(flights <= FLIGHTS && (flights..=VISITS * flights).contains(&visits), 13, 0))?;
+    Ok(Head { regions, sectors, edges, constraints, flights, visits })
 }
 
 /// 37, at the code of the rule that refuses.
@@ -161,14 +164,16 @@ fn against_rules<T>(result: Result<T, Refusal>) -> Result<T, Refusal> {
     result.map_err(|refusal| Refusal { code: 37, place: refusal.code })
 }
 
-/// The place among the kinds and the used payload bytes of each block that the head asks for, in order.
-fn due_blocks(head: &Head) -> Vec<(usize, usize)> {
+/// The kind and the used payload bytes of each block that the head asks for, in order.
+fn due_blocks(form: &Form, head: &Head) -> Vec<(usize, usize)> {
+    let &Head { regions, edges, constraints, flights, visits, .. } = head;
+    let by_code = [form.head as u64, regions, edges, constraints, regions, regions, flights, visits];
     let mut due = Vec::new();
-    for (kind, count) in [1, head.regions, head.edges, head.constraints, head.regions].into_iter().enumerate() {
-        let mut left = count as usize;
+    for &code in form.kinds {
+        let mut left = by_code[code - 1] as usize;
         while left > 0 {
-            let records = left.min(KINDS[kind].in_full_block);
-            due.push((kind, records * KINDS[kind].record_bytes()));
+            let records = left.min(kind(code).in_full_block);
+            due.push((code, records * kind(code).record_bytes()));
             left -= records;
         }
     }

@@ -1,5 +1,6 @@
 //! What the calls on a sheet's bytes answer, and what the program `verdicts` prints.
 
+use super::form::Form;
 use super::sheet::plan_in;
 
 /// A constraint's kind, whether it holds (1 or 0), and its violation.
@@ -20,7 +21,7 @@ pub struct Verdicts {
 
 impl Verdicts {
     pub fn of(sheet: &[u8]) -> Self {
-        let plan = match plan_in(sheet) {
+        let plan = match plan_in(Form::of(sheet), sheet) {
             Ok(plan) => plan,
             Err(refusal) => return Verdicts { code: refusal.code, place: refusal.place, total: 0, list: vec![] },
         };

@@ -18,6 +18,12 @@ pub enum Change {
     Length(usize),
     /// These two blocks change places.
     Exchange(usize, usize),
+    /// This block is taken out.
+    Drop(usize),
+    /// This block comes twice, one after the other.
+    Repeat(usize),
+    /// This block has the letters of this form.
+    Letters(usize, &'static Form),
     /// Every block is numbered by its place.
     Numbers,
     /// This block's check is made right.
@@ -30,12 +36,15 @@ impl Change {
     /// Any change but those that make something right, of a sheet with so many blocks.
     pub fn random(random: &mut Random, blocks: usize) -> Self {
         let place = some_place(random, blocks);
-        match random.between(0, 9) {
+        match random.between(0, 12) {
             0 => Change::Put(place, wild(random, &[]) as u8),
-            1 => Change::PutNumber(PREFIX + 2 * random.place(4), wild(random, &[]) as u16),
+            1 => Change::PutNumber(PREFIX + 2 * random.place(6), wild(random, &[FLIGHTS, VISITS]) as u16),
             2 => Change::Noise(place, random.pick(&[2, 8, PAYLOAD]), random.any()),
             3 => Change::Length(random.pick(&lengths(blocks))),
             4 => Change::Exchange(random.place(blocks), random.place(blocks)),
+            5 => Change::Drop(random.place(blocks)),
+            6 => Change::Repeat(random.place(blocks)),
+            7 => Change::Letters(random.place(blocks), random.pick(&FORMS)),
             _ => Change::Flip(place, random.pick(&[1, 2, 4, 8, 16, 32, 64, 128, 255])),
         }
     }
@@ -57,6 +66,14 @@ impl Change {
                     }
                 }
             }
+            Change::Drop(number) => {
+                bytes.drain(bytes.len().min(number * BLOCK)..bytes.len().min((number + 1) * BLOCK));
+            }
+            Change::Repeat(number) => {
+                let block: Vec<u8> = bytes.chunks(BLOCK).skip(number).take(1).flatten().copied().collect();
+                bytes.splice(bytes.len().min(number * BLOCK)..bytes.len().min(number * BLOCK), block);
+            }
+            Change::Letters(number, form) => put(bytes, number * BLOCK, form.letters),
             Change::Numbers => {
                 for (number, block) in (0u16..).zip(bytes.chunks_exact_mut(BLOCK)) {
                     block[6..8].copy_from_slice(&number.to_le_bytes());
@@ -83,10 +100,13 @@ fn some_place(random: &mut Random, blocks: usize) -> usize {
     random.place(blocks) * BLOCK + random.pick(&places)
 }
 
-/// The ends of what a sheet's length can be, and lengths around that of so many blocks.
+/// The ends of what a sheet's length can be in either form, and lengths around that of so many blocks.
 pub fn lengths(blocks: usize) -> Vec<usize> {
-    let most = BLOCKS * BLOCK;
-    let ends = [0, 1, BLOCK - 1, BLOCK, BLOCK + 1, most - 1, most, most + 1, most + BLOCK];
-    let around = (blocks * BLOCK - BLOCK..=blocks * BLOCK + BLOCK).filter(|length| [0, 1, BLOCK - 1].contains(&(length % BLOCK)));
-    ends.into_iter().chain(around).collect()
+    let mut lengths = vec![0, 1];
+    for blocks in [1, FIRST.blocks, FIRST.blocks + 1, SECOND.blocks, SECOND.blocks + 1, blocks - 1, blocks, blocks + 1] {
+        lengths.extend([(blocks * BLOCK).saturating_sub(1), blocks * BLOCK, blocks * BLOCK + 1]);
+    }
+    lengths.sort();
+    lengths.dedup();
+    lengths
 }

@@ -1,44 +1,62 @@
-//! Sheets as they are handed over: the bytes of a plan, good or not, and what is done to these bytes.
+//! Sheets as they are handed over: the bytes of a plan in either form, good or not, and what is done to these bytes.
 
 #![allow(dead_code, unused_imports)] // each test file takes its own part
 
 mod asking;
 mod change;
+pub mod converting;
 pub mod reading;
+mod refused;
 pub mod writing;
 
 use crate::cases::{all_cases, random_cases};
-use crate::plans::{plan, plan_of, sheet_a, Numbers, Random};
+use crate::plans::{flights_along, plan, plan_of, sheet_a, sheet_a_with_both, whole_plan, Numbers, Random};
 use crate::reference::*;
 pub use asking::Asked;
 pub use change::{lengths, Change};
+pub use converting::Converting;
 pub use reading::{numbers_in, Reading};
+pub use refused::sheet_damages;
 use std::path::PathBuf;
 pub use writing::Writing;
 
-/// The sheet laid out from these numbers but for outside areas and flights, and then changed in turn.
+/// The sheet of a form laid out from these numbers, and then changed in turn.
 #[derive(Clone, Debug)]
 pub struct Sheet {
+    pub form: &'static Form,
     pub plan: Numbers,
     pub changes: Vec<Change>,
 }
 
 impl Sheet {
-    pub fn of(plan: Numbers) -> Self {
-        Sheet { plan, changes: vec![] }
+    /// The sheet of a plan; the first form takes it without outside areas and flights.
+    pub fn of(form: &'static Form, plan: Numbers) -> Self {
+        Sheet { form, plan: if *form == FIRST { plan.plain() } else { plan }, changes: vec![] }
     }
 
-    pub fn a() -> Self {
-        Sheet::of(sheet_a())
+    /// Sheet A; the second form has it with outside areas and flights.
+    pub fn a(form: &'static Form) -> Self {
+        Sheet::of(form, if *form == FIRST { sheet_a() } else { sheet_a_with_both() })
     }
 
+    /// A sheet of either form; some of the second form have nothing that the first can't hold.
     pub fn random(random: &mut Random) -> Self {
-        Sheet::of(plan(random))
+        let form = random.pick(&FORMS);
+        let plan = if *form == FIRST || random.once_in(3) { plan(random) } else { whole_plan(random) };
+        Sheet::of(form, plan)
+    }
+
+    /// The form that it doesn't have.
+    pub fn other_form(&self) -> &'static Form {
+        if *self.form == FIRST {
+            &SECOND
+        } else {
+            &FIRST
+        }
     }
 
     pub fn bytes(&self) -> Vec<u8> {
-        let Numbers { regions, sectors, workloads, edges, constraints, colouring, .. } = &self.plan;
-        let mut bytes = lay_out(*regions, *sectors, workloads, edges, constraints, colouring);
+        let mut bytes = lay_out(self.form, self.plan.regions, self.plan.sectors, self.plan.lists());
         for change in &self.changes {
             change.apply(&mut bytes);
         }
@@ -47,12 +65,12 @@ impl Sheet {
 
     /// How many blocks it has before it is changed.
     pub fn blocks(&self) -> usize {
-        Sheet::of(self.plan.clone()).bytes().len() / BLOCK
+        Sheet { changes: vec![], ..self.clone() }.bytes().len() / BLOCK
     }
 
     /// The sheet with these changes besides.
     pub fn changed(&self, changes: &[Change]) -> Self {
-        Sheet { plan: self.plan.clone(), changes: [&self.changes, changes].concat() }
+        Sheet { changes: [&self.changes, changes].concat(), ..self.clone() }
     }
 
     /// The sheet with these changes besides, and with right checks after them.
@@ -63,8 +81,10 @@ impl Sheet {
     /// Changes its plan or its bytes by chance; after that all blocks often have right numbers and checks.
     pub fn break_some(&mut self, random: &mut Random) {
         for _ in 0..random.between(1, 2) {
-            match random.between(0, 3) {
+            match random.between(0, 5) {
                 0 => self.plan.break_one(random),
+                1 if *self.form == SECOND => self.plan.break_flights(random),
+                2 if *self.form == SECOND => self.plan.break_outside(random),
                 _ => self.changes.push(Change::random(random, self.blocks())),
             }
         }
@@ -83,7 +103,7 @@ impl Sheet {
             sheet.changes.remove(place);
             sheet
         });
-        let smaller_plans = self.plan.smaller().map(|plan| Sheet { plan, changes: self.changes.clone() });
+        let smaller_plans = self.plan.smaller().map(|plan| Sheet { plan, ..self.clone() });
         fewer_changes.chain(smaller_plans)
     }
 }
@@ -97,17 +117,18 @@ pub fn files() -> Vec<(Sheet, Vec<u8>)> {
     let stored = |path: PathBuf| {
         let bytes = std::fs::read(&path).expect("a sheet");
         let numbers = numbers_in(&bytes, reading::by_reference);
-        (Sheet::of(numbers.unwrap_or_else(|code| panic!("{} is refused by {code:?}", path.display()))), bytes)
+        let numbers = numbers.unwrap_or_else(|code| panic!("{} is refused by {code:?}", path.display()));
+        (Sheet::of(Form::of(&bytes), numbers), bytes)
     };
     paths.into_iter().map(stored).collect()
 }
 
-/// Plans whose lists end just before, at and just after the end of a block.
-pub fn plans_at_block_ends() -> Vec<Numbers> {
+/// Sheets of either form whose lists end just before, at and just after the end of a block.
+pub fn sheets_at_block_ends() -> Vec<Sheet> {
     let by_regions = [1, 124, 125, 126, 250, 251, 499, 500, 501, 511, 512].map(|regions| (regions, 62));
     let by_edges = [0, 1, 61, 62, 63, 124, 125, 2_045, 2_046, 2_047, 2_048].map(|edges| (512, edges));
     let mut random = Random::new(1);
-    let mut plans = Vec::new();
+    let mut sheets = Vec::new();
     for (regions, edges) in by_regions.into_iter().chain(by_edges) {
         for constraints in [1, CONSTRAINTS] {
             let sectors = random.between(1, SECTORS);
@@ -115,20 +136,46 @@ pub fn plans_at_block_ends() -> Vec<Numbers> {
             let pairs = (1..regions).flat_map(|a| (a + 1..=regions).map(move |b| [a, b]));
             plan.edges = pairs.take(edges).flat_map(|[a, b]| [a, b, random.between(1, AREA)]).collect();
             plan.constraints = plan.constraints[..4].repeat(constraints as usize);
-            plans.push(plan);
+            sheets.push(Sheet::of(&FIRST, plan.clone()));
+            sheets.push(Sheet::of(&SECOND, plan.clone()));
+            plan.outside.fill_with(|| random.between(0, AREA));
+            sheets.push(Sheet::of(&SECOND, plan));
         }
     }
-    plans
+    for visits in [1u64, 2, 63, 64, 65, 82, 83, 84, 165, 166, 167, 1_991, 1_992, 1_993, 2_047, 2_048] {
+        for flights in [visits.div_ceil(VISITS), visits.min(FLIGHTS)] {
+            let counts = (0..flights).map(|flight| (visits + flight) / flights).collect();
+            let plan = plan_of(&mut random, 12, 3);
+            sheets.push(Sheet::of(&SECOND, flights_along(&mut random, plan, counts)));
+        }
+    }
+    sheets
 }
 
-/// Reads sheets and asks them, and compares all that is answered and left.
+/// In words, where the bytes of a sheet that comes back first differ from those that it had.
+pub fn same_bytes(bytes: &[u8], before: &[u8]) -> Result<(), String> {
+    if bytes.len() != before.len() {
+        return Err(format!("there were {} bytes, and {} come back", before.len(), bytes.len()));
+    }
+    match (0..bytes.len()).find(|&place| bytes[place] != before[place]) {
+        None => Ok(()),
+        Some(place) => Err(format!("byte {place} was {}, and comes back as {}", before[place], bytes[place])),
+    }
+}
+
+/// Reads sheets, asks them and converts them either way, and compares all that is answered and left.
 pub fn all_sheets(name: &str, sheets: Vec<Sheet>) {
     all_cases(&format!("{name}, read"), sheets.iter().cloned().map(Reading::new));
+    all_cases(&format!("{name}, converted"), sheets.iter().flat_map(Converting::both_ways));
     all_cases(&format!("{name}, asked"), sheets.into_iter().map(Asked));
 }
 
-/// The same for sheets that `make` builds.
+/// The same for sheets that `make` builds, each converted one way, with any room.
 pub fn random_sheets(name: &str, default: u64, make: impl Fn(&mut Random) -> Sheet) {
     random_cases(&format!("{name}, read"), default, |random| Reading::new(make(random)));
+    random_cases(&format!("{name}, converted"), default, |random| {
+        let sheet = make(random);
+        Converting::random(random, sheet)
+    });
     random_cases(&format!("{name}, asked"), default, |random| Asked(make(random)));
 }

@@ -8,15 +8,15 @@ use crate::plans::{lower, Numbers, LISTS};
 use crate::reference::*;
 use crate::{library, reference};
 
-/// What is handed over: the sheet, and how long the four lent lists are.
+/// What is handed over: the sheet, and how long the seven lent lists are.
 #[derive(Clone, Debug)]
 pub struct Reading {
     pub sheet: Sheet,
-    pub rooms: [u64; 4],
+    pub rooms: [u64; 7],
 }
 
 /// The most numbers that each list can have.
-const MOST_ROOMS: [u64; 4] = [REGIONS, 3 * EDGES, 4 * CONSTRAINTS, REGIONS];
+const MOST_ROOMS: [u64; 7] = [REGIONS, REGIONS, 3 * EDGES, FLIGHTS, 2 * FLIGHTS * VISITS, 4 * CONSTRAINTS, REGIONS];
 
 impl Reading {
     /// A reading with exactly the room that the sheet's plan needs.
@@ -30,7 +30,7 @@ impl Reading {
 #[derive(Clone)]
 pub struct Memory {
     sheet: Lent<u8>,
-    pub lists: [Lent<u64>; 4],
+    pub lists: [Lent<u64>; 7],
 }
 
 impl Memory {
@@ -38,7 +38,7 @@ impl Memory {
         Memory::new(&reading.sheet.bytes(), reading.rooms)
     }
 
-    fn new(bytes: &[u8], rooms: [u64; 4]) -> Self {
+    fn new(bytes: &[u8], rooms: [u64; 7]) -> Self {
         Memory { sheet: Lent::list(bytes), lists: rooms.map(Lent::room) }
     }
 }
@@ -52,15 +52,15 @@ impl cases::Memory for Memory {
     }
 }
 
-/// Code, place, R, S, edge count, constraint count.
-pub type Answer = [u64; 6];
+/// Code, place, R, S, edge count, constraint count, flight count, visit count.
+pub type Answer = [u64; 8];
 
 macro_rules! answer {
     ($read:path, $memory:ident) => {{
-        let [workloads, edges, constraints, colouring] = $memory.lists.each_mut().map(Lent::slice);
-        match $read($memory.sheet.slice(), workloads, edges, constraints, colouring) {
-            Ok(head) => [0, 0, head.regions, head.sectors, head.edges, head.constraints],
-            Err(refusal) => [refusal.code, refusal.place, 0, 0, 0, 0],
+        let [workloads, outside, edges, counts, visits, constraints, colouring] = $memory.lists.each_mut().map(Lent::slice);
+        match $read($memory.sheet.slice(), workloads, outside, edges, counts, visits, constraints, colouring) {
+            Ok(head) => [0, 0, head.regions, head.sectors, head.edges, head.constraints, head.flights, head.visits],
+            Err(refusal) => [refusal.code, refusal.place, 0, 0, 0, 0, 0, 0],
         }
     }};
 }
@@ -76,7 +76,7 @@ pub fn by_library(memory: &mut Memory) -> Answer {
 /// The archive's own answer, which shows that a place or counts that don't apply are 0.
 pub fn by_archive(memory: &mut Memory) -> Answer {
     let sheet = memory.sheet.parts();
-    let [workloads, edges, constraints, colouring] = memory.lists.each_mut().map(Lent::parts);
+    let [workloads, outside, edges, counts, visits, constraints, colouring] = memory.lists.each_mut().map(Lent::parts);
     // SAFETY: each pointer and length is that of one slice, and the slices lie in buffers of their own.
     let answer = unsafe {
         raw::sctr_read(
@@ -84,15 +84,22 @@ pub fn by_archive(memory: &mut Memory) -> Answer {
             sheet.1,
             workloads.0,
             workloads.1,
+            outside.0,
+            outside.1,
             edges.0,
             edges.1,
+            counts.0,
+            counts.1,
+            visits.0,
+            visits.1,
             constraints.0,
             constraints.1,
             colouring.0,
             colouring.1,
         )
     };
-    [answer.code, answer.place, answer.regions, answer.sectors, answer.edges, answer.constraints]
+    let raw::ReadAnswer { code, place, regions, sectors, edges, constraints, flights, visits } = answer;
+    [code, place, regions, sectors, edges, constraints, flights, visits]
 }
 
 /// The code of the reading, or in words where one of those under test first differs from the reference.
@@ -109,11 +116,11 @@ pub fn code(code: u64, place: u64) -> Code {
 pub fn numbers_in(bytes: &[u8], read: fn(&mut Memory) -> Answer) -> Result<Numbers, Code> {
     let mut memory = Memory::new(bytes, MOST_ROOMS);
     match read(&mut memory) {
-        [0, _, regions, sectors, edges, constraints] => {
-            let lengths = [regions, 3 * edges, 4 * constraints, regions];
+        [0, _, regions, sectors, edges, constraints, flights, visits] => {
+            let lengths = [regions, regions, 3 * edges, flights, 2 * visits, 4 * constraints, regions];
             let mut lists = memory.lists.iter().zip(lengths).map(|(list, length)| list.content()[..length as usize].to_vec());
-            let [workloads, edges, constraints, colouring] = std::array::from_fn(|_| lists.next().expect("four lists"));
-            let (outside, counts, visits) = (vec![0; workloads.len()], vec![], vec![]);
+            let [workloads, outside, edges, counts, visits, constraints, colouring] =
+                std::array::from_fn(|_| lists.next().expect("seven lists"));
             Ok(Numbers { regions, sectors, workloads, outside, edges, counts, visits, constraints, colouring })
         }
         [refused_by, place, ..] => Err(code(refused_by, place)),
@@ -127,7 +134,7 @@ impl Case for Reading {
 
     fn smaller(&self) -> Box<dyn Iterator<Item = Self> + '_> {
         let smaller_sheets = self.sheet.smaller().map(|sheet| Reading { sheet, ..self.clone() });
-        let less_room = lower(&self.rooms).map(|rooms| Reading { rooms: rooms.try_into().expect("four"), ..self.clone() });
+        let less_room = lower(&self.rooms).map(|rooms| Reading { rooms: rooms.try_into().expect("seven"), ..self.clone() });
         Box::new(smaller_sheets.chain(less_room))
     }
 }

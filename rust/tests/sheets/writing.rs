@@ -4,35 +4,46 @@ use super::Sheet;
 use crate::canary::Lent;
 use crate::cases::{self, compare_all, Case, Code};
 use crate::library::{raw, Constraint};
-use crate::plans::{lower_number, plan, records, Numbers, Random};
+use crate::plans::{lower_number, records, Numbers, Random};
+use crate::reference::{Form, FIRST};
 use crate::{library, reference};
 
-/// What is handed over: the numbers but for outside areas and flights, and how many bytes are lent.
+/// What is handed over: the numbers, for the first form all but outside areas and flights, and how many bytes are lent.
 #[derive(Clone, Debug)]
 pub struct Writing {
+    pub form: &'static Form,
     pub plan: Numbers,
     pub room: u64,
 }
 
 impl Writing {
     /// A writing with exactly the room that its sheet needs.
-    pub fn new(plan: Numbers) -> Self {
-        let room = Sheet::of(plan.clone()).bytes().len() as u64;
-        Writing { plan, room }
+    pub fn new(form: &'static Form, plan: Numbers) -> Self {
+        let room = Sheet::of(form, plan.clone()).bytes().len() as u64;
+        Writing { form, plan, room }
+    }
+
+    pub fn first(plan: Numbers) -> Self {
+        Writing::new(&FIRST, plan)
     }
 
     pub fn random(random: &mut Random) -> Self {
-        Writing::new(plan(random))
+        let Sheet { form, plan, .. } = Sheet::random(random);
+        Writing::new(form, plan)
     }
 }
 
 /// All memory that is lent, each slice guarded; what is only read is guarded as well.
 #[derive(Clone)]
 pub struct Memory {
+    form: &'static Form,
     regions: u64,
     sectors: u64,
     workloads: Lent<u64>,
+    outside: Lent<u64>,
     edges: Lent<u64>,
+    counts: Lent<u64>,
+    visits: Lent<u64>,
     constraints: Lent<u64>,
     records: Lent<Constraint>,
     colouring: Lent<u64>,
@@ -41,12 +52,16 @@ pub struct Memory {
 
 impl Memory {
     pub fn of(writing: &Writing) -> Self {
-        let Numbers { regions, sectors, workloads, edges, constraints, colouring, .. } = &writing.plan;
+        let Numbers { regions, sectors, workloads, outside, edges, counts, visits, constraints, colouring } = &writing.plan;
         Memory {
+            form: writing.form,
             regions: *regions,
             sectors: *sectors,
             workloads: Lent::list(workloads),
+            outside: Lent::list(outside),
             edges: Lent::list(edges),
+            counts: Lent::list(counts),
+            visits: Lent::list(visits),
             constraints: Lent::list(constraints),
             records: Lent::list(&records(constraints)),
             colouring: Lent::list(colouring),
@@ -59,7 +74,10 @@ impl cases::Memory for Memory {
     fn same_as(&self, due: &Self) -> Result<(), String> {
         self.sheet.same_as(&due.sheet, "sheet")?;
         self.workloads.same_as(&due.workloads, "workloads")?;
+        self.outside.same_as(&due.outside, "outside")?;
         self.edges.same_as(&due.edges, "edges")?;
+        self.counts.same_as(&due.counts, "counts")?;
+        self.visits.same_as(&due.visits, "visits")?;
         self.constraints.same_as(&due.constraints, "constraints")?;
         self.records.same_as(&due.records, "records")?;
         self.colouring.same_as(&due.colouring, "colouring")
@@ -70,68 +88,54 @@ impl cases::Memory for Memory {
 pub type Answer = [u64; 3];
 
 macro_rules! answer {
-    ($write:path, $memory:ident, $constraints:ident) => {{
-        let answer = $write(
-            $memory.regions,
-            $memory.sectors,
-            $memory.workloads.slice(),
-            $memory.edges.slice(),
-            $memory.$constraints.slice(),
-            $memory.colouring.slice(),
-            $memory.sheet.slice(),
-        );
-        match answer {
+    ($write:path, $memory:ident: $($list:ident)*) => {
+        match $write($memory.regions, $memory.sectors, $($memory.$list.slice(),)* $memory.sheet.slice()) {
             Ok(bytes) => [0, 0, bytes as u64],
             Err(refusal) => [refusal.code, refusal.place, 0],
         }
-    }};
+    };
 }
 
 pub fn by_reference(memory: &mut Memory) -> Answer {
-    answer!(reference::write, memory, constraints)
+    if *memory.form == FIRST {
+        return answer!(reference::write, memory: workloads edges constraints colouring);
+    }
+    answer!(reference::write_second, memory: workloads outside edges counts visits constraints colouring)
 }
 
 pub fn by_library(memory: &mut Memory) -> Answer {
-    answer!(library::write, memory, constraints)
+    if *memory.form == FIRST {
+        return answer!(library::write, memory: workloads edges constraints colouring);
+    }
+    answer!(library::write_second, memory: workloads outside edges counts visits constraints colouring)
 }
 
+/// Only of the first form.
 pub fn by_library_records(memory: &mut Memory) -> Answer {
-    answer!(library::write_records, memory, records)
+    answer!(library::write_records, memory: workloads edges records colouring)
 }
 
 macro_rules! archive_answer {
-    ($write:path, $memory:ident, $constraints:ident) => {{
-        let constraints = $memory.$constraints.parts();
+    ($write:path, $memory:ident: $($list:ident)*) => {{
+        $(let $list = $memory.$list.parts();)*
         let sheet = $memory.sheet.parts();
-        let [workloads, edges, colouring] = [&mut $memory.workloads, &mut $memory.edges, &mut $memory.colouring].map(Lent::parts);
         // SAFETY: each pointer and length is that of one slice, and the slices lie in buffers of their own.
-        let answer = unsafe {
-            $write(
-                $memory.regions,
-                $memory.sectors,
-                workloads.0,
-                workloads.1,
-                edges.0,
-                edges.1,
-                constraints.0,
-                constraints.1,
-                colouring.0,
-                colouring.1,
-                sheet.0,
-                sheet.1,
-            )
-        };
+        let answer = unsafe { $write($memory.regions, $memory.sectors, $($list.0, $list.1,)* sheet.0, sheet.1) };
         [answer.code, answer.place, answer.bytes]
     }};
 }
 
 /// The archive's own answer, which shows that a place or a number of bytes that doesn't apply is 0.
 pub fn by_archive(memory: &mut Memory) -> Answer {
-    archive_answer!(raw::sctr_write, memory, constraints)
+    if *memory.form == FIRST {
+        return archive_answer!(raw::sctr_write, memory: workloads edges constraints colouring);
+    }
+    archive_answer!(raw::sctr_write_second, memory: workloads outside edges counts visits constraints colouring)
 }
 
+/// Only of the first form.
 pub fn by_archive_records(memory: &mut Memory) -> Answer {
-    archive_answer!(raw::sctr_write_records, memory, records)
+    archive_answer!(raw::sctr_write_records, memory: workloads edges records colouring)
 }
 
 /// The code of the writing, or in words where one of those under test first differs from the reference.

@@ -1,4 +1,5 @@
 -- The fronts of the two lists are the constraints and the verdicts of the judgement, so that the text made of them is the sheet's.
+-- the constraints are few
 use Prim.Native.Nat.{_*_, _≤_}
 use native.Mathlib.Omega.{arith}
 use mathlib.Core.Path.{_≡_, sym}
@@ -12,7 +13,6 @@ use Rattle.judgement.specs.Printing.{text-refused, text-judged, promise-
 use Rattle.judgement.proofs.put_judged.Statement.{statement}
 use Rattle.judgement.proofs.put_judged.Tie as tie
 
--- the constraints are few
 few : (c : tie.After-judge-sheet) → c .judge-sheet .result .constraints ≤ mostConstraints
 few c = few-left (c .judge-sheet .ensures)
 

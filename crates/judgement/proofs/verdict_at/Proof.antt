@@ -1,4 +1,5 @@
 -- A place within the list has its verdict at the front of the lent list; for another the answer is 0.
+-- the place is one of 1 to the number of constraints
 use native.Mathlib.Omega.{arith}
 use borrow.Author.Tests.{not-true, not-false}
 use borrow.Author.Needs.{needs}
@@ -7,7 +8,6 @@ use Rattle.judgement.specs.Fronts.{few-left, verdict-outside, place-in, 
 use Rattle.judgement.proofs.verdict_at.Statement.{statement}
 use Rattle.judgement.proofs.verdict_at.Tie as tie
 
--- the place is one of 1 to the number of constraints
 place : (c : tie.Else1) → In (c .before .before .before .before .judge-sheet .result .constraints) (c .before .before .before .before .before .before .before .before .args .place)
 place c = place-in (c .before .before .before .before .judge-sheet .ensures) (c .before .before .before .before .before .before .before .before .args .place) (c .before .in-limits .ensures) (not-false _ (c .if1 .left))
 

@@ -1,6 +1,6 @@
 //! Nanoseconds a move of the proved library, of the baseline and of the library's own method in plain Rust, on the same plans and
 //! lists, one after the other in one run, without flights and then with them. The rows of all three are compared. After them the
-//! reading and the writing of a sheet.
+//! reading, the writing and the conversion of sheets.
 
 mod baseline;
 mod flights;

@@ -70,8 +70,8 @@ fn flights_refusal(regions: u64, counts: &[u64], visits: &[u64]) -> Result<(), R
     )
 }
 
-/// Codes 1 to 8 and, after 3 and 5, codes 14 and 13, with constraints of the kinds 1 to `kinds`; a plan in a sheet has no list of
-/// outside areas.
+/// Codes 1 to 8 and, after 3 and 5, codes 14 and 13, with constraints of the kinds 1 to `kinds`; a plan in a first sheet has no
+/// list of outside areas.
 #[allow(clippy::too_many_arguments)]
 pub fn plan_refusal(
     kinds: u64,

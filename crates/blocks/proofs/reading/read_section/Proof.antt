@@ -2,7 +2,7 @@
 use native.Mathlib.Omega.{arith}
 use borrow.Author.Needs.{needs}
 use Rattle.blocks.specs.Whole.{whole-small, whole-some}
-use Rattle.blocks.specs.SectionRead.{SectionRead, section-read-start, section-read-block, section-read-room, section-read-long, section-read-turn, section-read-end}
+use Rattle.blocks.specs.SectionRead.{SectionRead, section-read-start, section-read-block, section-read-room, section-read-long, section-read-turn, section-read-after, section-read-end}
 use Rattle.blocks.proofs.reading.read_section.Statement.{statement}
 use Rattle.blocks.proofs.reading.read_section.Tie as tie
 
@@ -53,7 +53,7 @@ same-length : tie.Need-same-length Inv-loop μ-loop
 same-length c = c .before .loop .inv .putting .size
 
 returns : tie.Need-returns Inv-loop μ-loop
-returns c = section-read-end (c .before .loop .inv) (search needs) (c .before .before .before .before .before .args .section .kind)
+returns c = let r = c .before .loop .inv in (section-read-after r (search needs), section-read-end r (search needs) (c .before .before .before .before .before .args .section .kind))
 
 pub read-section-spec : {M : Type 1} → statement M
 read-section-spec =

@@ -2,7 +2,7 @@
 use native.Mathlib.Omega.{arith}
 use borrow.Author.Needs.{needs}
 use Rattle.blocks.specs.Whole.{whole-some}
-use Rattle.blocks.specs.SectionWritten.{SectionWritten, section-written-start, section-written-filling, section-written-room, section-written-turn, section-written-end}
+use Rattle.blocks.specs.SectionWritten.{SectionWritten, section-written-start, section-written-filling, section-written-room, section-written-turn, section-written-after, section-written-end}
 use Rattle.blocks.proofs.writing.write_section.Statement.{statement}
 use Rattle.blocks.proofs.writing.write_section.Tie as tie
 
@@ -50,7 +50,7 @@ same-length : tie.Need-same-length Inv-loop μ-loop
 same-length c = c .before .loop .inv .putting .size
 
 returns : tie.Need-returns Inv-loop μ-loop
-returns c = section-written-end (c .before .loop .inv) (search needs)
+returns c = let r = c .before .loop .inv in (section-written-after r (search needs), section-written-end r (search needs))
 
 pub write-section-spec : {M : Type 1} → statement M
 write-section-spec =

@@ -39,10 +39,11 @@ use denote.Triple.Table.{entered, cited}
 use denote.Triple.Walked.{says, Stays, stay-none, stay-none-slice, gave-slice, walkOf, Walks, ends-at, walked, goes-none, goes-none-slice, goes-gave-slice, walk-meets}
 use denote.Exit.{yes}
 use Rattle.lists.specs.Lent.{slice, Reads, Writes}
-use Rattle.sheet.specs.declared.Written.{Written}
-use Rattle.sheet.specs.Writing.{Promise, contents, left}
-use Rattle.sheet.proofs.Written as Ans
-use Rattle.sheet.proofs.Written.Laws as Ans′
+use Rattle.form.specs.declared.Form.the-variants.{First}
+use Rattle.writing.specs.declared.Written.{Written}
+use Rattle.writing.specs.Promise.{Promise, plain as plainContents, left}
+use Rattle.writing.proofs.Written as Ans
+use Rattle.writing.proofs.Written.Laws as Ans′
 use Rattle.records.specs.declared.Constraint.{Constraint}
 use Rattle.records.specs.Numbers.{numbersOf}
 use Rattle.records.specs.Copied.{arrayOf, front}
@@ -118,10 +119,10 @@ module _ {M : Type 1} (𝓤 : URA M) (H : Heap 𝓤) (A : Atoms 𝓤) (W : Given
 
   -- what the function ensures of its result and of the last lists, and what its covered callee does on the numbers
   abbrev Said : Written → List ℕ → Type 0
-  Said r sheet-last = Promise (contents regions sectors (now workloads) (now edges) (numbersOf (now constraints)) (now colouring)) (now sheet) (left r sheet-last)
+  Said r sheet-last = Promise First (plainContents regions sectors (now workloads) (now edges) (numbersOf (now constraints)) (now colouring)) (now sheet) (left r sheet-last)
 
   abbrev Heard : List ℕ → Written → List ℕ → Type 0
-  Heard numbers r sheet-last = Promise (contents regions sectors (now workloads) (now edges) (front (length (now constraints)) numbers) (now colouring)) (now sheet) (left r sheet-last)
+  Heard numbers r sheet-last = Promise First (plainContents regions sectors (now workloads) (now edges) (front (length (now constraints)) numbers) (now colouring)) (now sheet) (left r sheet-last)
 
   abbrev to-copy : Copy 𝓤 H A mem run .Ghost
   to-copy = (((κ-constraints, tt), (q-constraints, tt), tt, (constraints, tt), (slice constraints ∷ [], tt)), tt)

@@ -1,7 +1,7 @@
 -- Where there is a block, it is one of the blocks due, so the next place is still a number of the sheet's bytes.
 use native.Mathlib.Omega.{arith}
-use Rattle.sheet.specs.ShowLaws.{due-there, next-past, next-there}
 use borrow.Author.Needs.{needs}
+use Rattle.sheet.specs.ShowLaws.{due-there, next-past, next-there}
 use Rattle.sheet.proofs.showing.after.Statement.{statement}
 use Rattle.sheet.proofs.showing.after.Tie as tie
 

@@ -1,12 +1,14 @@
 -- A place that is not past the end has a block that is due; what is wrong with it decides between an empty part and its used payload.
-use mathlib.Core.Path.{refl}
-use Rattle.sheet.specs.ReadLaws.{opened-head, has-blocks}
-use Rattle.sheet.specs.ShowLaws.{DueThere, due-there, shown-past, shown-faulty, shown-part, block-room}
+use mathlib.Core.Path.{ap, _∙_}
 use borrow.Author.Needs.{needs}
+use lib.ListN.{length}
+use Rattle.form.specs.FormLaws.{four-letters}
+use Rattle.form.specs.Accepted.{opened-blocks}
+use Rattle.sheet.specs.ShowLaws.{DueThere, due-there, shown-past, shown-faulty, shown-part, block-room, opened-head, opened-as}
 use Rattle.sheet.proofs.showing.block.Statement.{statement}
 use Rattle.sheet.proofs.showing.block.Tie as tie
+    -- the block is due where the place is not past the end
 
--- the block is due where the place is not past the end
 dueHere : (c : tie.Else1) → DueThere (c .before .before .before .args .sheet .now) (c .before .before .before .args .number)
 dueHere c = due-there _ _ (c .before .past-end .ensures) (c .if1 .left)
 
@@ -19,29 +21,35 @@ empty-part-requires c κs = search needs
 returns : tie.Need-returns
 returns c = shown-past _ _ (c .before .before .past-end .ensures) (c .before .if1 .taken) (c .empty-part .ensures)
 
-counts-in-requires : tie.Need-counts-in-requires
-counts-in-requires c κs = opened-head (dueHere c .opened)
+of-requires : tie.Need-of-requires
+of-requires c κs = search needs
+
+head-in-requires : tie.Need-head-in-requires
+head-in-requires c κs = opened-head (opened-as (c .of .ensures) (dueHere (c .before) .opened))
 
 due-of-requires : tie.Need-due-of-requires
-due-of-requires c κs = has-blocks (dueHere (c .before) .opened) (c .counts-in .ensures) .limits
+due-of-requires c κs = opened-blocks (opened-as (c .before .of .ensures) (dueHere (c .before .before) .opened)) (c .head-in .ensures) .limits
+
+letters-requires : tie.Need-letters-requires
+letters-requires c κs = search needs
 
 slice-aggregate-block-fault : tie.Need-slice-aggregate-block-fault
 slice-aggregate-block-fault c = search needs
 
 block-fault-requires : tie.Need-block-fault-requires
-block-fault-requires c κs = (refl, block-room (dueHere (c .before .before .before)) (c .before .before .counts-in .ensures) (c .before .due-of .ensures))
+block-fault-requires c κs = (ap length (c .before .letters .ensures) ∙ four-letters (c .before .before .before .before .of .result), block-room (dueHere (c .before .before .before .before .before)) (c .before .before .before .before .of .ensures) (c .before .before .before .head-in .ensures) (c .before .before .due-of .ensures))
 
 empty-part-requires-2 : tie.Need-empty-part-requires-2
 empty-part-requires-2 c κs = search needs
 
 returns-2 : tie.Need-returns-2
-returns-2 c = let f = c .before .before in let d = f .before .before in let i = d .before .before in shown-faulty _ _ (i .before .past-end .ensures) (i .if1 .left) (d .before .counts-in .ensures) (d .due-of .ensures) (f .block-fault .ensures) (c .before .if2 .taken) (c .empty-part2 .ensures)
+returns-2 c = shown-faulty _ _ (c .before .before .before .before .before .before .before .before .before .past-end .ensures) (c .before .before .before .before .before .before .before .before .if1 .left) (c .before .before .before .before .before .before .before .of .ensures) (c .before .before .before .before .before .before .head-in .ensures) (c .before .before .before .before .before .due-of .ensures) (c .before .before .before .before .letters .ensures) (c .before .before .block-fault .ensures) (c .before .if2 .taken) (c .empty-part2 .ensures)
 
 payload-requires : tie.Need-payload-requires
-payload-requires c κs = let d = c .before .before .before in block-room (dueHere (d .before .before)) (d .before .counts-in .ensures) (d .due-of .ensures)
+payload-requires c κs = block-room (dueHere (c .before .before .before .before .before .before .before)) (c .before .before .before .before .before .before .of .ensures) (c .before .before .before .before .before .head-in .ensures) (c .before .before .before .before .due-of .ensures)
 
 returns-3 : tie.Need-returns-3
-returns-3 c = let f = c .before .before in let d = f .before .before in let i = d .before .before in shown-part _ _ (i .before .past-end .ensures) (i .if1 .left) (d .before .counts-in .ensures) (d .due-of .ensures) (f .block-fault .ensures) (c .before .if2 .left) (c .payload .ensures)
+returns-3 c = shown-part _ _ (c .before .before .before .before .before .before .before .before .before .past-end .ensures) (c .before .before .before .before .before .before .before .before .if1 .left) (c .before .before .before .before .before .before .before .of .ensures) (c .before .before .before .before .before .before .head-in .ensures) (c .before .before .before .before .before .due-of .ensures) (c .before .before .before .before .letters .ensures) (c .before .before .block-fault .ensures) (c .before .if2 .left) (c .payload .ensures)
 
 pub block-spec : {M : Type 1} → statement M
 block-spec =
@@ -50,8 +58,10 @@ block-spec =
     past-end-requires
     empty-part-requires
     returns
-    counts-in-requires
+    of-requires
+    head-in-requires
     due-of-requires
+    letters-requires
     slice-aggregate-block-fault
     block-fault-requires
     empty-part-requires-2

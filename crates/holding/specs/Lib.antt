@@ -1,0 +1,4 @@
+pub mod Held
+pub mod HeldLaws
+pub mod HoldLaws
+pub mod ReadLaws

@@ -1,0 +1,4 @@
+pub mod Promise
+pub mod Sections
+pub mod Roomy
+pub mod WriteLaws
