@@ -1,13 +1,13 @@
 -- What a form carries of contents, and that it carries what it holds.
 -- Assumes nothing.
-use Prim.Native.Nat.{ℕ, zero, suc, _/_, _<_}
+use Prim.Native.Nat.{ℕ, zero, suc, _/_}
 use native.Mathlib.Omega.{arith}
-use mathlib.Core.Path.{_≡_, refl, sym, ap, subst, _∙_}
+use mathlib.Core.Path.{_≡_, refl, sym, ap, _∙_}
 use mathlib.Core.Bool.{Bool, true, false, not, _&&_, and-eq-true-iff, true≢false}
 use mathlib.Core.List.{List, [], _∷_}
 use mathlib.Core.Logic.{_↔_}
 use borrow.Author.Tests.{eqb-true, eq-eqb, not-false}
-use lib.Dec.{eqb, T}
+use lib.Dec.{eqb}
 use lib.ListN.{length, replicate}
 use Rattle.lists.specs.Sums.{sum}
 use Rattle.lists.specs.Tests.{test-same}
@@ -21,7 +21,7 @@ use Rattle.form.specs.declared.Form.the-variants.{First, Second}
 use Rattle.form.specs.declared.Head.{Head}
 use Rattle.form.specs.Form.{kindCount, Contents, headOf, carried}
 use Rattle.form.specs.FormLaws.{HeadLimits}
-use Rattle.form.specs.ContentsLaws.{ValidContents, valid-contents, second-takes}
+use Rattle.form.specs.ContentsLaws.{ValidContents}
 use Rattle.form.specs.Refusals.{contentsTable, contentsRefusal}
 use Rattle.conversion.specs.Promise.{allZero, kindRight, kindsRight, carries}
 

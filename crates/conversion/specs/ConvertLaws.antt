@@ -23,12 +23,12 @@ use Rattle.form.specs.declared.Head.{Head}
 use Rattle.form.specs.Form.{letters, outsideCount, kindCount, Contents, headOf, carried, layouts, dues, stored, numbers, sheetOf, headIn, contentsIn}
 use Rattle.form.specs.FormLaws.{HeadLimits, Bounded}
 use Rattle.form.specs.Firsts.{HasBlocks}
-use Rattle.form.specs.ContentsLaws.{Counted, head-of, head-read, valid-contents, second-takes}
+use Rattle.form.specs.ContentsLaws.{Counted, head-of, head-read, valid-contents}
 use Rattle.form.specs.Refusals.{contentsRefusal}
 use Rattle.form.specs.Accepted.{Accepted, accepted-none, rows-refused, rows-passed}
 use Rattle.form.specs.Over.{over}
 use Rattle.holding.specs.Held.{mostHeld, contentsHeld, Holds}
-use Rattle.holding.specs.HeldLaws.{counted-held, holds-accepted}
+use Rattle.holding.specs.HeldLaws.{counted-held, holds-accepted, holds-contents}
 use Rattle.writing.specs.declared.Written.{Written}
 use Rattle.writing.specs.Promise.{sheetBytes, Outcome, refusedAnswer, writtenAnswer, contents, left}
 use Rattle.writing.specs.Sections.{SoMany, numbersWith}
@@ -128,14 +128,6 @@ pub record Measured (from to : Form) (sheet held : List ℕ) (h : Head) (n : ℕ
   pub count : n ≡ length (dues to (carriedHead to h))
 
 module _ {from : Form} {sheet : List ℕ} {r : Refusal} {held : List ℕ} (p : Holds from sheet r held) (z : r .code ≡ 0) {h : Head} (e : h ≡ headIn from sheet) where
-  -- what is held are the sheet's contents
-  same-held : contentsHeld h held ≡ contentsIn from sheet
-  same-held = rw e (p .contents z)
-
-  -- which the second sheet takes
-  pub held-taken : contentsRefusal Second (contentsHeld h held) .code ≡ 0
-  held-taken = ap (λ (k : Contents). contentsRefusal Second k .code) same-held ∙ second-takes from (contentsIn from sheet) (holds-accepted p z .valid)
-
   module _ (to : Form) {g : Head} (q : g ≡ carriedHead to h) where
     -- the head of what another form carries is within the limits of that form
     pub carried-limits : HeadLimits to g
@@ -143,7 +135,7 @@ module _ {from : Form} {sheet : List ℕ} {r : Refusal} {held : List ℕ} (p : H
 
     -- and says how many blocks it takes
     pub measured : {n : ℕ} → n ≡ length (dues to g) → Measured from to sheet held h n
-    measured m = record { accepts = holds-accepted p z; head = e; same = same-held; count = rw q at m }
+    measured m = record { accepts = holds-accepted p z; head = e; same = holds-contents p z e; count = rw q at m }
 
 -- ---- the ways out
 

@@ -17,9 +17,9 @@ use Rattle.refusals.specs.Table.{Row, whole, none, planTable, planRefusal}
 use Rattle.refusals.specs.Passed.{passed, passed-none, passed-more, front-passed}
 use Rattle.form.specs.declared.Form.{Form}
 use Rattle.form.specs.declared.Form.the-variants.{First}
-use Rattle.form.specs.Form.{formIn, Contents, headOf, carried, sheetOf, headIn, contentsIn}
+use Rattle.form.specs.Form.{formIn, Contents, headOf, carried, sheetOf, contentsIn}
 use Rattle.form.specs.ContentsLaws.{Counted, carried-in, counted-in, head-read, valid-contents, counted-valid}
-use Rattle.form.specs.Refusals.{contentsTable, contentsRefusal, sheetRefusal}
+use Rattle.form.specs.Refusals.{contentsTable, contentsRefusal}
 use Rattle.form.specs.Over.{over}
 use Rattle.form.specs.Accepted.{Accepted, accepted, accepted-none, opened-form, rows-none, rows-passed}
 use Rattle.form.specs.RoundTrip.{read-written, length-written, head-written, written-read, accepted-written}

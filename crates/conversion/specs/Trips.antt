@@ -1,7 +1,6 @@
 -- What converting leaves, and the way there and back: over what the calls promise.
 -- Assumes nothing.
 use Prim.Native.Nat.{ℕ, _≤_}
-use native.Mathlib.Omega.{arith}
 use mathlib.Core.Path.{_≡_, refl, sym, ap, _∙_}
 use mathlib.Core.Bool.{true}
 use mathlib.Core.List.{List}
@@ -13,8 +12,8 @@ use Rattle.packing.specs.Numbers.{Bytes}
 use Rattle.refusals.specs.Table.{none}
 use Rattle.refusals.specs.Passed.{passed, passed-none, passed-most}
 use Rattle.form.specs.declared.Form.{Form}
-use Rattle.form.specs.Form.{formIn, Contents, carried, sheetOf, contentsIn}
-use Rattle.form.specs.ContentsLaws.{valid-contents, second-takes, carried-in, head-read}
+use Rattle.form.specs.Form.{formIn, carried, sheetOf, contentsIn}
+use Rattle.form.specs.ContentsLaws.{valid-contents, second-takes, carried-in}
 use Rattle.form.specs.Refusals.{contentsRefusal}
 use Rattle.form.specs.Over.{over}
 use Rattle.form.specs.Accepted.{Accepted, accepted, accepted-none, opened-form, rows-none, rows-passed}

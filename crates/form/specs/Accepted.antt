@@ -4,20 +4,19 @@ use Prim.Native.Nat.{ℕ, _*_, _/_, _%_, _≤_}
 use native.Mathlib.Decide.{ℕ-discrete}
 use native.Mathlib.Omega.{arith}
 use mathlib.Core.Path.{_≡_, refl, sym, subst, _∙_}
-use mathlib.Core.Bool.{Bool, true, false, cond, not, _&&_}
+use mathlib.Core.Bool.{Bool, true, false, cond, not}
 use mathlib.Core.List.{List, [], _∷_, _++_}
 use borrow.Author.Tests.{eqb-true, eqb-false, eq-eqb, le-leb, not-true, not-false}
 use lib.Dec.{eqb, leb, T, leb→le}
-use lib.ListN.{length, take, drop}
+use lib.ListN.{length, take}
 use lib.Seq.{take-take}
 use Rattle.lists.specs.Sums.{In, Every}
 use Rattle.lists.specs.SumLaws.{every-append}
-use Rattle.packing.specs.Numbers.{total}
 use Rattle.terms.specs.Plan.{within}
 use Rattle.meaning.specs.Plan.{mostRegions, mostSectors, mostEdges, mostConstraints, mostVisits}
 use Rattle.refusals.specs.declared.Refusal.{Refusal}
 use Rattle.refusals.specs.Table.{Row, whole, refusal, none}
-use Rattle.refusals.specs.Passed.{Passed, passed, passed-none, passed-more, passed-in, passed-equal, passed-most, passed-records, front-given, front-passed, both}
+use Rattle.refusals.specs.Passed.{Passed, passed-none, passed-more, passed-in, passed-equal, passed-most, passed-records, front-given, front-passed, both}
 use Rattle.blocks.specs.Same.{same}
 use Rattle.blocks.specs.Block.{blockLength, lettersLength}
 use Rattle.blocks.specs.BlockLaws.{right-of}
@@ -25,7 +24,7 @@ use Rattle.blocks.specs.Sheet.{faultFrom}
 use Rattle.form.specs.declared.Form.{Form}
 use Rattle.form.specs.declared.Form.the-variants.{First, Second}
 use Rattle.form.specs.declared.Head.{Head}
-use Rattle.form.specs.Form.{letters, mostBlocks, flightCount, formIn, headWidths, dues, headIn, contentsIn}
+use Rattle.form.specs.Form.{letters, mostBlocks, flightCount, formIn, dues, headIn, contentsIn}
 use Rattle.form.specs.FormLaws.{HeadLimits, few-blocks, head-first, some-block}
 use Rattle.form.specs.Firsts.{HasBlocks}
 use Rattle.form.specs.Refusals.{lengthRight, flightsRight, headTable, headFault, openTable, contentsRefusal, laterFault, heldTable, sheetRefusal}

@@ -1,10 +1,10 @@
 -- Contents and their numbers: what a sheet holds has as many of each as its head says, contents make numbers, numbers make contents, and each undoes the other.
 -- Assumes nothing.
-use Prim.Native.Nat.{ℕ, _+_, _*_, _/_, _≤_}
+use Prim.Native.Nat.{ℕ, _*_, _/_, _≤_}
 use native.Mathlib.Omega.{arith}
 use mathlib.Core.Path.{_≡_, refl, sym, ap, _∙_}
 use mathlib.Core.List.{List, [], _∷_, append-nil}
-use lib.ListN.{length, getD, take, drop, length-replicate}
+use lib.ListN.{length, take, drop, length-replicate}
 use Rattle.lists.specs.Sums.{In, sum, Every}
 use Rattle.lists.specs.ListLaws.{length-listOf}
 use Rattle.packing.specs.Numbers.{unpack, total}
@@ -21,7 +21,7 @@ use Rattle.blocks.specs.Layout.{numbersAt, numbersOf, length-numbers}
 use Rattle.form.specs.declared.Form.{Form}
 use Rattle.form.specs.declared.Form.the-variants.{First, Second}
 use Rattle.form.specs.declared.Head.{Head}
-use Rattle.form.specs.Form.{flightCount, headWidths, headLayout, workloadLayout, outsideLayout, edgeLayout, constraintLayout, colouringLayout, countLayout, visitLayout, layouts, turned, Contents, headOf, carried, headNumbers, numbers, headFrom, headIn, contentsOf, contentsIn}
+use Rattle.form.specs.Form.{flightCount, headWidths, headLayout, workloadLayout, outsideLayout, edgeLayout, constraintLayout, colouringLayout, countLayout, visitLayout, layouts, Contents, headOf, carried, headNumbers, numbers, headFrom, headIn, contentsOf, contentsIn}
 use Rattle.form.specs.Firsts.{workloadFirst, outsideFirst, edgeFirst, constraintFirst, colouringFirst, countFirst, visitFirst}
 use Rattle.form.specs.FormLaws.{HeadLimits, length-turned, turned-twice}
 use Rattle.form.specs.Refusals.{contentsTable, contentsRefusal}

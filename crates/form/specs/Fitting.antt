@@ -7,13 +7,13 @@ use mathlib.Core.Path.{_≡_, refl, sym, ap, _∙_}
 use mathlib.Core.List.{List, [], _∷_, _++_}
 use lib.ListN.{length, getD, take, drop, length-drop, take-append-drop}
 use lib.Seq.{getD-drop, length-take-le}
-use Rattle.lists.specs.Sums.{In, sum, Every}
+use Rattle.lists.specs.Sums.{sum, Every}
 use Rattle.lists.specs.SumLaws.{getD-bound, every-turn}
 use Rattle.lists.specs.ListLaws.{listOf-every}
 use Rattle.lists.specs.Places.{at-next}
 use Rattle.packing.specs.Numbers.{Fits, rep}
 use Rattle.packing.specs.Cuts.{rep-add}
-use Rattle.meaning.specs.Plan.{edgeLength, visitLength, constraintLength, edgeAt, visitAt, constraintAt, edgesOf, visitsOf, flightsOf, constraintsOf, mostRegions, mostVisits, EdgeLimits, VisitLimits, FlightLimits, ConstraintLimits}
+use Rattle.meaning.specs.Plan.{edgeLength, visitLength, constraintLength, edgeAt, visitAt, constraintAt, edgesOf, visitsOf, flightsOf, constraintsOf, mostRegions, EdgeLimits, VisitLimits, FlightLimits, ConstraintLimits}
 use Rattle.blocks.specs.Layout.{AllFit}
 use Rattle.form.specs.declared.Form.{Form}
 use Rattle.form.specs.declared.Form.the-variants.{First, Second}

@@ -1,12 +1,11 @@
 -- Document 01, "The sheet", and document 02, C-13: the two sheets, the kinds of blocks in order, and what they hold.
 -- Assumes nothing.
-use Prim.Native.Nat.{ℕ, _+_, _*_, _/_}
+use Prim.Native.Nat.{ℕ, _*_, _/_}
 use mathlib.Core.Bool.{cond}
 use mathlib.Core.List.{List, [], _∷_}
 use lib.ListN.{length, getD, take}
 use Rattle.packing.specs.Numbers.{unpack, rep, total}
 use Rattle.meaning.specs.Plan.{edgeLength, visitLength, constraintLength, mostFlights, mostKind, noOutside}
-use Rattle.blocks.specs.declared.Section.{Section}
 use Rattle.blocks.specs.declared.Due.{Due}
 use Rattle.blocks.specs.Same.{same}
 use Rattle.blocks.specs.Block.{lettersLength, payloadOf}

@@ -8,7 +8,6 @@ use mathlib.Core.List.{List}
 use lib.ListN.{length, take, length-take}
 use Rattle.blocks.specs.Same.{same, same-eq}
 use Rattle.blocks.specs.Block.{lettersLength}
-use Rattle.form.specs.declared.Form.{Form}
 use Rattle.form.specs.declared.Form.the-variants.{First, Second}
 use Rattle.form.specs.Form.{letters, formIn}
 

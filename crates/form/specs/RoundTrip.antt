@@ -1,8 +1,7 @@
 -- A sheet read and written again is the same bytes, and contents written and read again are the same: of either form.
 -- Assumes nothing.
 use Prim.Native.Nat.{ℕ, _*_}
-use native.Mathlib.Omega.{arith}
-use mathlib.Core.Path.{_≡_, refl, sym, ap, _∙_}
+use mathlib.Core.Path.{_≡_, sym, ap, _∙_}
 use mathlib.Core.List.{List, []}
 use lib.ListN.{length, getD}
 use Rattle.packing.specs.Numbers.{Bytes}

@@ -2,17 +2,19 @@
 -- Assumes nothing.
 use Prim.Native.Nat.{ℕ, _≤_}
 use native.Mathlib.Omega.{arith}
-use mathlib.Core.Path.{_≡_, refl, _∙_}
+use mathlib.Core.Path.{_≡_, refl, ap, _∙_}
 use mathlib.Core.List.{List}
 use lib.ListN.{length}
 use Rattle.packing.specs.Part.{length-part}
 use Rattle.refusals.specs.declared.Refusal.{Refusal}
 use Rattle.blocks.specs.Block.{blockLength}
 use Rattle.form.specs.declared.Form.{Form}
+use Rattle.form.specs.declared.Form.the-variants.{Second}
 use Rattle.form.specs.declared.Head.{Head}
-use Rattle.form.specs.Form.{headIn}
+use Rattle.form.specs.Form.{Contents, headIn, contentsIn}
 use Rattle.form.specs.FormLaws.{some-block, Bounded, bounded}
-use Rattle.form.specs.ContentsLaws.{Counted}
+use Rattle.form.specs.ContentsLaws.{Counted, second-takes}
+use Rattle.form.specs.Refusals.{contentsRefusal}
 use Rattle.form.specs.Accepted.{Accepted, accepted}
 use Rattle.holding.specs.Held.{outsideAt, edgesAt, constraintsAt, colouringAt, countsAt, visitsAt, heldEnd, mostHeld, contentsHeld, Holds}
 
@@ -49,3 +51,11 @@ module _ {f : Form} {sheet : List ℕ} {r : Refusal} {held : List ℕ} (p : Hold
   -- whose numbers are within the limits
   pub holds-bounded : {h : Head} → h ≡ headIn f sheet → Bounded h
   holds-bounded e = rw e (bounded f (holds-accepted .opened .limits))
+
+  -- and whose contents are those that are held
+  pub holds-contents : {h : Head} → h ≡ headIn f sheet → contentsHeld h held ≡ contentsIn f sheet
+  holds-contents e = rw e (p .contents z)
+
+  -- which the second sheet takes, and so does the call
+  pub holds-taken : {h : Head} → h ≡ headIn f sheet → contentsRefusal Second (contentsHeld h held) .code ≡ 0
+  holds-taken e = ap (λ (k : Contents). contentsRefusal Second k .code) (holds-contents e) ∙ second-takes f (contentsIn f sheet) (holds-accepted .valid)

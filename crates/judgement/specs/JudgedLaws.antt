@@ -2,20 +2,18 @@
 -- Assumes nothing.
 use Prim.Native.Nat.{ℕ, _/_}
 use native.Mathlib.Omega.{arith}
-use mathlib.Core.Path.{_≡_, refl, sym, ap, subst, _∙_}
+use mathlib.Core.Path.{_≡_, refl, ap, _∙_}
 use mathlib.Core.List.{List}
 use borrow.Author.Tests.{eq-eqb, ne-eqb}
 use lib.ListN.{length}
 use Rattle.meaning.specs.Plan.{constraintLength}
 use Rattle.refusals.specs.declared.Refusal.{Refusal}
-use Rattle.form.specs.declared.Form.the-variants.{Second}
 use Rattle.form.specs.declared.Head.{Head}
 use Rattle.form.specs.Form.{formIn, Contents, headIn}
-use Rattle.form.specs.ContentsLaws.{counted-in, second-takes}
-use Rattle.form.specs.Refusals.{contentsRefusal}
+use Rattle.form.specs.ContentsLaws.{counted-in}
 use Rattle.form.specs.Over.{over}
 use Rattle.holding.specs.Held.{contentsHeld, Holds}
-use Rattle.holding.specs.HeldLaws.{holds-accepted}
+use Rattle.holding.specs.HeldLaws.{holds-contents}
 use Rattle.judgement.specs.declared.Judged.{Judged}
 use Rattle.judgement.specs.Judgement.{verdictsHeld, totalHeld, contentsBy, refusalBy, Judgement, judged, refusedFor, judgement}
 use Rattle.judgement.specs.Judged.{numbers, Leaves}
@@ -41,20 +39,14 @@ module _ (sheet : List ℕ) {r : Refusal} {held : List ℕ} (p : Holds (formIn s
   unfolding refusedFor
   leaves-refused n = leaves-by (judgement-refused sheet (rw (p .refusal) at n)) (rw (p .refusal)) refl refl
 
-  module _ (z : r .code ≡ 0) where
-    -- a sheet that is not has contents that the call takes
-    pub held-taken : {h : Head} → h ≡ headIn (formIn sheet) sheet → contentsRefusal Second (contentsHeld h held) .code ≡ 0
-    held-taken e =
-        subst (λ (k : Contents). contentsRefusal Second k .code ≡ 0) (sym (rw e (p .contents z))) (second-takes (formIn sheet) (contentsBy sheet) (holds-accepted p z .valid))
-
-    -- and its constraints and the verdicts on them are left
-    pub leaves-judged : {h : Head} {cs cs′ vs vs′ : List ℕ} {sum : ℕ} → h ≡ headIn (formIn sheet) sheet → let k = contentsHeld h held in
-        cs′ ≡ over (k .constraints) cs → sum ≡ totalHeld k → vs′ ≡ over (verdictsHeld k) vs
-        → Leaves sheet cs vs (record { code = 0; place = 0; constraints = h .constraints; total = sum }) cs′ vs′
-    unfolding judged
-    leaves-judged {h} {cs} {vs = vs} e c t v =
-        let k : contentsHeld h held ≡ contentsBy sheet = rw e (p .contents z) in
-        let n : h .constraints ≡ length (contentsBy sheet .constraints) / constraintLength = rw e (omega (arith, counted-in (formIn sheet) sheet .constraints)) in
-        leaves-by (judgement-judged sheet (rw (p .refusal) at z)) (rw (n, t ∙ ap totalHeld k))
-        (c ∙ ap (λ (x : Contents). over (x .constraints) cs) k)
-        (v ∙ ap (λ (x : Contents). over (verdictsHeld x) vs) k)
+  -- a sheet that is not: its constraints and the verdicts on them are left
+  pub leaves-judged : {h : Head} {cs cs′ vs vs′ : List ℕ} {sum : ℕ} → r .code ≡ 0 → h ≡ headIn (formIn sheet) sheet → let k = contentsHeld h held in
+      cs′ ≡ over (k .constraints) cs → sum ≡ totalHeld k → vs′ ≡ over (verdictsHeld k) vs
+      → Leaves sheet cs vs (record { code = 0; place = 0; constraints = h .constraints; total = sum }) cs′ vs′
+  unfolding judged
+  leaves-judged {h} {cs} {vs = vs} z e c t v =
+      let k : contentsHeld h held ≡ contentsBy sheet = holds-contents p z e in
+      let n : h .constraints ≡ length (contentsBy sheet .constraints) / constraintLength = rw e (omega (arith, counted-in (formIn sheet) sheet .constraints)) in
+      leaves-by (judgement-judged sheet (rw (p .refusal) at z)) (rw (n, t ∙ ap totalHeld k))
+      (c ∙ ap (λ (x : Contents). over (x .constraints) cs) k)
+      (v ∙ ap (λ (x : Contents). over (verdictsHeld x) vs) k)

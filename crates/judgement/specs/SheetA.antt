@@ -17,7 +17,7 @@ use Rattle.form.specs.declared.Form.the-variants.{First, Second}
 use Rattle.form.specs.Form.{Contents, carried, formIn, sheetOf}
 use Rattle.form.specs.Refusals.{openTable, contentsRefusal, sheetRefusal}
 use Rattle.form.specs.Accepted.{opened-form}
-use Rattle.form.specs.RoundTrip.{written-read, accepted-written, contents-again}
+use Rattle.form.specs.RoundTrip.{accepted-written, contents-again}
 use Rattle.form.specs.SheetA.{sheetA, flownA}
 use Rattle.judgement.specs.Judgement.{verdictsHeld, totalHeld, judged, refusedFor, judgement, verdictAt, holds, violation, textOf}
 

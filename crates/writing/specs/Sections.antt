@@ -22,7 +22,7 @@ use Rattle.blocks.specs.Layout as blocks
 use Rattle.form.specs.declared.Form.{Form}
 use Rattle.form.specs.declared.Form.the-variants.{First, Second}
 use Rattle.form.specs.declared.Head.{Head}
-use Rattle.form.specs.Form.{letters, headLength, outsideCount, headWidths, layouts, dues, turned, headNumbers}
+use Rattle.form.specs.Form.{letters, outsideCount, headWidths, layouts, dues, turned, headNumbers}
 use Rattle.form.specs.FormLaws.{four-letters, laid-layouts, length-turned}
 use Rattle.form.specs.Firsts.{HasBlocks}
 use Rattle.form.specs.Over.{over, put-front}

@@ -1,6 +1,5 @@
 // A plan and its colouring into lent bytes, as either sheet.
 ghost use mathlib.Core.Path.{_≡_};
-ghost use Rattle.blocks.specs.Block.{blockLength};
 ghost use Rattle.form.specs.declared.Form.the-variants.{First, Second};
 ghost use Rattle.form.specs.FormLaws.{HeadLimits};
 ghost use Rattle.writing.specs.Promise.{contents, plain, refusedAnswer, left, Promise};

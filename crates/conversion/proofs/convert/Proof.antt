@@ -2,9 +2,9 @@
 use native.Mathlib.Omega.{arith}
 use borrow.Author.Tests.{not-true, not-false}
 use borrow.Author.Needs.{needs}
-use Rattle.holding.specs.HeldLaws.{holds-head, holds-bounded}
+use Rattle.holding.specs.HeldLaws.{holds-head, holds-bounded, holds-taken}
 use Rattle.writing.specs.Roomy.{few-either}
-use Rattle.conversion.specs.ConvertLaws.{Measured, held-taken, carried-limits, measured, promise-refused, promise-short, promise-uncarried, sheet-room, promise-converted}
+use Rattle.conversion.specs.ConvertLaws.{Measured, carried-limits, measured, promise-refused, promise-short, promise-uncarried, sheet-room, promise-converted}
 use Rattle.conversion.proofs.convert.Statement.{statement}
 use Rattle.conversion.proofs.convert.Tie as tie
 
@@ -51,7 +51,7 @@ carries-whole-requires : tie.Need-carries-whole-requires
 carries-whole-requires c κs =
     let p = c .before .before .before .before .before .before .before .before .hold .ensures in
     let z = c .before .before .before .before .before .if1 .left in
-    ((holds-bounded p z (c .before .before .before .before .head-in .ensures), omega (arith, c .before .before .before .before .before .before .before .before .hold .kept .1 .1 .0)), held-taken p z (c .before .before .before .before .head-in .ensures))
+    ((holds-bounded p z (c .before .before .before .before .head-in .ensures), omega (arith, c .before .before .before .before .before .before .before .before .hold .kept .1 .1 .0)), holds-taken p z (c .before .before .before .before .head-in .ensures))
 
 refused-requires-3 : tie.Need-refused-requires-3
 refused-requires-3 c κs = search needs

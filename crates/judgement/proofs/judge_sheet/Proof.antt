@@ -9,8 +9,8 @@ use Rattle.form.specs.declared.Form.{Form}
 use Rattle.form.specs.Form.{formIn, headIn}
 use Rattle.form.specs.FormLaws.{Bounded}
 use Rattle.form.specs.Over.{over}
-use Rattle.holding.specs.HeldLaws.{counted-held, holds-head, holds-bounded}
-use Rattle.judgement.specs.JudgedLaws.{leaves-refused, held-taken, leaves-judged}
+use Rattle.holding.specs.HeldLaws.{counted-held, holds-head, holds-bounded, holds-taken}
+use Rattle.judgement.specs.JudgedLaws.{leaves-refused, leaves-judged}
 use Rattle.judgement.proofs.judge_sheet.Statement.{statement}
 use Rattle.judgement.proofs.judge_sheet.Tie as tie
     -- the head is that of the sheet as its letters have it
@@ -53,7 +53,7 @@ slice-aggregate-judge-held : tie.Need-slice-aggregate-judge-held
 slice-aggregate-judge-held c = search needs
 
 judge-held-requires : tie.Need-judge-held-requires
-judge-held-requires c κs = ((few (c .before .before .before .before .before .before .before .before), omega (arith, c .before .before .before .before .before .before .before .before .before .before .before .before .before .read .kept .1 .0)), (held-taken (c .before .before .before .before .before .before .before .before .before .before .before .before .before .before .before .before .before .before .args .sheet .now) (c .before .before .before .before .before .before .before .before .before .before .before .before .before .read .ensures) (c .before .before .before .before .before .before .before .before .before .before .if1 .left) (head (c .before .before .before .before .before .before .before .before)), c .before .before .before .before .before .before .before .before .before .before .before .before .before .before .before .before .before .before .pre .1))
+judge-held-requires c κs = ((few (c .before .before .before .before .before .before .before .before), omega (arith, c .before .before .before .before .before .before .before .before .before .before .before .before .before .read .kept .1 .0)), (holds-taken (c .before .before .before .before .before .before .before .before .before .before .before .before .before .read .ensures) (c .before .before .before .before .before .before .before .before .before .before .if1 .left) (head (c .before .before .before .before .before .before .before .before)), c .before .before .before .before .before .before .before .before .before .before .before .before .before .before .before .before .before .before .pre .1))
 
 same-length : tie.Need-same-length
 same-length c = search needs
