@@ -10,8 +10,8 @@ use Rattle.holding.specs.HeldLaws.{counted-held}
 use Rattle.judgement.specs.NoMoves.{front-of, judges-lists}
 use Rattle.judgement.proofs.judge_held.Statement.{statement}
 use Rattle.judgement.proofs.judge_held.Tie as tie
-    -- what is held has as many of each as the head says
 
+-- what is held has as many of each as the head says
 counted : (s : tie.Start) → Counted (s .args .head) (contentsHeld (s .args .head) (s .args .held .now))
 counted s = counted-held (s .args .head) (s .args .held .now) (s .pre .0 .0) (s .pre .0 .1)
 

@@ -13,8 +13,8 @@ use Rattle.holding.specs.HeldLaws.{counted-held, holds-head, holds-bounded, hol
 use Rattle.judgement.specs.JudgedLaws.{leaves-refused, leaves-judged}
 use Rattle.judgement.proofs.judge_sheet.Statement.{statement}
 use Rattle.judgement.proofs.judge_sheet.Tie as tie
-    -- the head is that of the sheet as its letters have it
 
+-- the head is that of the sheet as its letters have it
 head : (c : tie.After-head-in) → c .head-in .result ≡ headIn (formIn (c .before .before .before .before .before .before .before .before .before .before .args .sheet .now)) (c .before .before .before .before .before .before .before .before .before .before .args .sheet .now)
 head c = c .head-in .ensures ∙ ap (λ (f : Form). headIn f (c .before .before .before .before .before .before .before .before .before .before .args .sheet .now)) (c .before .of .ensures)
 

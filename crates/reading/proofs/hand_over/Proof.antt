@@ -10,8 +10,8 @@ use Rattle.holding.specs.HeldLaws.{counted-held}
 use Rattle.reading.specs.Handing.{fits}
 use Rattle.reading.proofs.hand_over.Statement.{statement}
 use Rattle.reading.proofs.hand_over.Tie as tie
-    -- what is held has as many of each as the head says
 
+-- what is held has as many of each as the head says
 counted : (s : tie.Start) → Counted (s .args .head) (contentsHeld (s .args .head) (s .args .held .now))
 counted s = counted-held (s .args .head) (s .args .held .now) (s .pre .0 .0) (s .pre .0 .1)
 

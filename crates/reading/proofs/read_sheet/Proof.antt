@@ -11,8 +11,8 @@ use Rattle.reading.specs.Promise.{Input, input}
 use Rattle.reading.specs.ReadLaws.{enough-room, promise-refused, promise-short, promise-held}
 use Rattle.reading.proofs.read_sheet.Statement.{statement}
 use Rattle.reading.proofs.read_sheet.Tie as tie
-    -- what reading is given
 
+-- what reading is given
 abbrev given : tie.Start → Input
 given s = let a = s .args in input (a .sheet .now) (a .workloads .now) (a .outside .now) (a .edges .now) (a .counts .now) (a .visits .now) (a .constraints .now) (a .colouring .now)
 

@@ -7,8 +7,8 @@ use Rattle.form.specs.Accepted.{opened-blocks}
 use Rattle.sheet.specs.ShowLaws.{DueThere, due-there, shown-past, shown-faulty, shown-part, block-room, opened-head, opened-as}
 use Rattle.sheet.proofs.showing.block.Statement.{statement}
 use Rattle.sheet.proofs.showing.block.Tie as tie
-    -- the block is due where the place is not past the end
 
+-- the block is due where the place is not past the end
 dueHere : (c : tie.Else1) → DueThere (c .before .before .before .args .sheet .now) (c .before .before .before .args .number)
 dueHere c = due-there _ _ (c .before .past-end .ensures) (c .if1 .left)
 
