@@ -3,7 +3,7 @@
 use Prim.Native.Nat.{ℕ, zero, suc, _/_}
 use native.Mathlib.Omega.{arith}
 use mathlib.Core.Path.{_≡_, refl, sym, ap, _∙_}
-use mathlib.Core.Bool.{Bool, true, false, not, _&&_, and-eq-true-iff, true≢false}
+use mathlib.Core.Bool.{Bool, true, not, _&&_, and-eq-true-iff}
 use mathlib.Core.List.{List, [], _∷_}
 use mathlib.Core.Logic.{_↔_}
 use borrow.Author.Tests.{eqb-true, eq-eqb, not-false}
@@ -86,10 +86,7 @@ nothing [] e = refl
 nothing (x ∷ xs) e = absurd (omega arith)
 
 three : (a b c : Bool) → a && b && c ≡ true → (a ≡ true) × ((b ≡ true) × (c ≡ true))
-three true true true e = (refl, (refl, refl))
-three true true false e = absurd (true≢false (sym e))
-three true false c e = absurd (true≢false (sym e))
-three false b c e = absurd (true≢false (sym e))
+three a b c e = let p = and-eq-true-iff (a && b) c .0 e in let q = and-eq-true-iff a b .0 (p .0) in (q .0, (q .1, p .1))
 
 -- they are carried whole
 pub carried-whole : (f : Form) (k : Contents) → ValidContents k → carries f k ≡ true → carried f k ≡ k

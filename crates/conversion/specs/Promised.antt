@@ -17,7 +17,7 @@ use Rattle.refusals.specs.Table.{Row, whole, none, planTable, planRefusal}
 use Rattle.refusals.specs.Passed.{passed, passed-none, passed-more, front-passed}
 use Rattle.form.specs.declared.Form.{Form}
 use Rattle.form.specs.declared.Form.the-variants.{First}
-use Rattle.form.specs.Form.{formIn, Contents, headOf, carried, sheetOf, contentsIn}
+use Rattle.form.specs.Form.{formIn, Contents, headOf, carried, sheetOf, contentsIn, headBy, contentsBy}
 use Rattle.form.specs.ContentsLaws.{Counted, carried-in, counted-in, head-read, valid-contents, counted-valid}
 use Rattle.form.specs.Refusals.{contentsTable, contentsRefusal}
 use Rattle.form.specs.Over.{over}
@@ -99,10 +99,10 @@ contentsLeft o =
     (take (a .regions) (o .colouring))
 
 -- where it is not refused, they are the contents of the sheet
-pub left-held : (i : reading.Input) → contentsLeft (reading.held i) ≡ reading.contentsRead i
+pub left-held : (i : reading.Input) → contentsLeft (reading.held i) ≡ contentsBy (i .sheet)
 unfolding reading.held
 left-held i =
-    let k = reading.contentsRead i in
+    let k = contentsBy (i .sheet) in
     let n = counted-in (formIn (i .sheet)) (i .sheet) in
     rw (
       take-at (k .workloads) _ _ (n .workloads),
@@ -116,7 +116,7 @@ left-held i =
       ← n .sectors,
     )
 
-pub contents-left : {i : reading.Input} {o : reading.Outcome} → reading.Promise i o → o .answer .code ≡ 0 → contentsLeft o ≡ reading.contentsRead i
+pub contents-left : {i : reading.Input} {o : reading.Outcome} → reading.Promise i o → o .answer .code ≡ 0 → contentsLeft o ≡ contentsBy (i .sheet)
 contents-left {i} p e = ap contentsLeft (reading-holds p e) ∙ left-held i
 
 -- of a first sheet they have no outside areas and no flights, so that they can be written as one
@@ -158,7 +158,7 @@ pub record ContentsAgain (k : Contents) (o : reading.Outcome) : Type 0 where
   pub contents : contentsLeft o ≡ k
 
 -- the room is right for a sheet of these contents
-room-right : (k : Contents) (i : reading.Input) → reading.headRead i ≡ headOf k → Counted (headOf k) k → Room k i → reading.roomRight i ≡ true
+room-right : (k : Contents) (i : reading.Input) → headBy (i .sheet) ≡ headOf k → Counted (headOf k) k → Room k i → reading.roomRight i ≡ true
 unfolding reading.roomRight
 room-right k i e n r =
     rw (
@@ -184,7 +184,7 @@ written-and-read {f} {k} {lent} {w} {i} {o} c q e s r p =
     let s′ : i .sheet ≡ sheetOf f k = (rw (writing-holds q y) at s) ∙ take-at (sheetOf f k) (drop (length (sheetOf f k)) lent) (writing.sheetBytes f k) (length-written f k c v) in
     let a : Accepted f (i .sheet) = rw s′ (accepted-written f k c v) in
     let g : formIn (i .sheet) ≡ f = opened-form f (i .sheet) (a .opened) in
-    let h : reading.headRead i ≡ headOf k = rw (g, s′) (head-written f k c v) in
+    let h : headBy (i .sheet) ≡ headOf k = rw (g, s′) (head-written f k c v) in
     let m = room-right k i h (counted-valid k (valid-contents f k v)) r in
     let z : reading.readRefusal i ≡ none =
     rows-passed (formIn (i .sheet)) (i .sheet) _ (rw g (ap (λ (x : Refusal). x .code) (accepted-none a)))

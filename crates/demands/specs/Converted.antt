@@ -5,14 +5,15 @@ use mathlib.Core.Path.{_≡_, sym, ap, subst, _∙_}
 use mathlib.Core.List.{List}
 use lib.IntN.{ℤ}
 use Rattle.form.specs.declared.Form.{Form}
-use Rattle.form.specs.Form.{Contents, contentsIn}
+use Rattle.form.specs.Form.{Contents, contentsIn, contentsBy}
+use Rattle.form.specs.Refusals.{refusalBy}
 use Rattle.form.specs.Accepted.{Accepted, accepted-none, opened-form}
 use Rattle.reading.specs.Promise as reading
 use Rattle.writing.specs.Promise.{Outcome}
 use Rattle.conversion.specs.Promise as conversion
 use Rattle.conversion.specs.Trips.{converted, converted-accepted, converted-contents, source-accepted}
 use Rattle.conversion.specs.Promised.{contentsLeft, contents-left}
-use Rattle.judgement.specs.Judgement.{contentsBy, refusalBy, judged, judgement}
+use Rattle.judgement.specs.Judgement.{judged, judgement}
 use Rattle.call.specs.Promise as call
 
 -- a call on the contents that a reading leaves, with these moves and this lent memory

@@ -259,3 +259,11 @@ contentsOf f h nss =
 -- the contents of a sheet, as its head has them
 unfoldable pub contentsIn : Form → List ℕ → Contents
 contentsIn f sheet = let h = headIn f sheet in contentsOf f h (numbersOf (layouts f h) sheet)
+
+-- ---- of either sheet, by its letters
+
+abbrev pub headBy : List ℕ → Head
+headBy sheet = headIn (formIn sheet) sheet
+
+abbrev pub contentsBy : List ℕ → Contents
+contentsBy sheet = contentsIn (formIn sheet) sheet

@@ -79,3 +79,7 @@ heldTable f sheet = fault (laterFault f (headIn f sheet) sheet) ∷ item 37 (con
 -- what a sheet is refused for as one of a form
 unfoldable pub sheetRefusal : Form → List ℕ → Refusal
 sheetRefusal f sheet = refusal (openTable f sheet ++ heldTable f sheet)
+
+-- and as the one that its letters say it is
+abbrev pub refusalBy : List ℕ → Refusal
+refusalBy sheet = sheetRefusal (formIn sheet) sheet

@@ -25,6 +25,21 @@ use blocks::dues::due_count;
 // The kinds in order.
 pub const KINDS: [u8; 8] = [1, 2, 6, 3, 4, 5, 7, 8];
 
+// The bytes of so many records as a full block holds.
+const WORKLOAD_SIZE: usize = 125 * WORKLOAD_BYTES;
+
+const OUTSIDE_SIZE: usize = 125 * OUTSIDE_BYTES;
+
+const EDGE_SIZE: usize = 62 * EDGE_BYTES;
+
+const CONSTRAINT_SIZE: usize = 41 * CONSTRAINT_BYTES;
+
+const SECTOR_SIZE: usize = 500 * SECTOR_BYTES;
+
+const COUNT_SIZE: usize = 500 * COUNT_BYTES;
+
+const VISIT_SIZE: usize = 83 * VISIT_BYTES;
+
 // The head.
 pub fn head_section(form: Form) -> Section
     ensures { λ s. ⌜ s ≡ sectionOf (headLayout form) ⌝ }
@@ -44,7 +59,7 @@ pub fn workload_section(head: Head) -> Section
 {
     Section {
         kind: KINDS[1],
-        size: 125 * WORKLOAD_BYTES,
+        size: WORKLOAD_SIZE,
         bytes: head.regions as usize * WORKLOAD_BYTES,
     }
 }
@@ -57,7 +72,7 @@ pub fn outside_section(form: Form, head: Head) -> Section
     let count = form.outside_count(head.regions);
     Section {
         kind: KINDS[2],
-        size: 125 * OUTSIDE_BYTES,
+        size: OUTSIDE_SIZE,
         bytes: count as usize * OUTSIDE_BYTES,
     }
 }
@@ -69,7 +84,7 @@ pub fn edge_section(head: Head) -> Section
 {
     Section {
         kind: KINDS[3],
-        size: 62 * EDGE_BYTES,
+        size: EDGE_SIZE,
         bytes: head.edges as usize * EDGE_BYTES,
     }
 }
@@ -81,7 +96,7 @@ pub fn constraint_section(head: Head) -> Section
 {
     Section {
         kind: KINDS[4],
-        size: 41 * CONSTRAINT_BYTES,
+        size: CONSTRAINT_SIZE,
         bytes: head.constraints as usize * CONSTRAINT_BYTES,
     }
 }
@@ -93,7 +108,7 @@ pub fn colouring_section(head: Head) -> Section
 {
     Section {
         kind: KINDS[5],
-        size: 500 * SECTOR_BYTES,
+        size: SECTOR_SIZE,
         bytes: head.regions as usize * SECTOR_BYTES,
     }
 }
@@ -105,7 +120,7 @@ pub fn count_section(head: Head) -> Section
 {
     Section {
         kind: KINDS[6],
-        size: 500 * COUNT_BYTES,
+        size: COUNT_SIZE,
         bytes: head.flights as usize * COUNT_BYTES,
     }
 }
@@ -117,7 +132,7 @@ pub fn visit_section(head: Head) -> Section
 {
     Section {
         kind: KINDS[7],
-        size: 83 * VISIT_BYTES,
+        size: VISIT_SIZE,
         bytes: head.visits as usize * VISIT_BYTES,
     }
 }
@@ -128,13 +143,13 @@ pub fn sizes_of(form: Form, head: Head) -> [usize; 8]
 {
     [
         form.head_bytes(),
-        125 * WORKLOAD_BYTES,
-        125 * OUTSIDE_BYTES,
-        62 * EDGE_BYTES,
-        41 * CONSTRAINT_BYTES,
-        500 * SECTOR_BYTES,
-        500 * COUNT_BYTES,
-        83 * VISIT_BYTES,
+        WORKLOAD_SIZE,
+        OUTSIDE_SIZE,
+        EDGE_SIZE,
+        CONSTRAINT_SIZE,
+        SECTOR_SIZE,
+        COUNT_SIZE,
+        VISIT_SIZE,
     ]
 }
 

@@ -95,26 +95,6 @@ pub fn edges_in(held: &[u64], head: Head) -> &[u64]
     &held[from..to]
 }
 
-// The visit counts that are held.
-pub fn counts_in(held: &[u64], head: Head) -> &[u64]
-    requires { ⌜ Bounded head × (mostHeld ≤ length (now held)) ⌝ }
-    ensures { λ r. ⌜ now r ≡ contentsHeld head (now (held .entry)) .counts ⌝ }
-{
-    let from = counts_at(head);
-    let to = visits_at(head);
-    &held[from..to]
-}
-
-// The visit numbers that are held.
-pub fn visits_in(held: &[u64], head: Head) -> &[u64]
-    requires { ⌜ Bounded head × (mostHeld ≤ length (now held)) ⌝ }
-    ensures { λ r. ⌜ now r ≡ contentsHeld head (now (held .entry)) .visits ⌝ }
-{
-    let from = visits_at(head);
-    let to = held_end(head);
-    &held[from..to]
-}
-
 // The constraint numbers that are held.
 pub fn constraints_in(held: &[u64], head: Head) -> &[u64]
     requires { ⌜ Bounded head × (mostHeld ≤ length (now held)) ⌝ }
@@ -132,5 +112,25 @@ pub fn colouring_in(held: &[u64], head: Head) -> &[u64]
 {
     let from = colouring_at(head);
     let to = counts_at(head);
+    &held[from..to]
+}
+
+// The visit counts that are held.
+pub fn counts_in(held: &[u64], head: Head) -> &[u64]
+    requires { ⌜ Bounded head × (mostHeld ≤ length (now held)) ⌝ }
+    ensures { λ r. ⌜ now r ≡ contentsHeld head (now (held .entry)) .counts ⌝ }
+{
+    let from = counts_at(head);
+    let to = visits_at(head);
+    &held[from..to]
+}
+
+// The visit numbers that are held.
+pub fn visits_in(held: &[u64], head: Head) -> &[u64]
+    requires { ⌜ Bounded head × (mostHeld ≤ length (now held)) ⌝ }
+    ensures { λ r. ⌜ now r ≡ contentsHeld head (now (held .entry)) .visits ⌝ }
+{
+    let from = visits_at(head);
+    let to = held_end(head);
     &held[from..to]
 }

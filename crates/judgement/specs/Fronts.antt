@@ -15,11 +15,12 @@ use Rattle.meaning.specs.Plan.{constraintLength, mostConstraints}
 use Rattle.meaning.specs.Moves.{verdictLength}
 use Rattle.refusals.specs.Passed.{in-limits}
 use Rattle.form.specs.declared.Head.{Head}
-use Rattle.form.specs.Form.{formIn}
+use Rattle.form.specs.Form.{formIn, contentsBy}
 use Rattle.form.specs.ContentsLaws.{counted-in, head-read}
+use Rattle.form.specs.Refusals.{refusalBy}
 use Rattle.form.specs.Accepted.{accepted}
 use Rattle.judgement.specs.declared.Judged.{Judged}
-use Rattle.judgement.specs.Judgement.{contentsBy, refusalBy, Judgement, judged, refusedFor, judgement, constraintCount, verdictAt, Promise}
+use Rattle.judgement.specs.Judgement.{Judgement, judged, refusedFor, judgement, constraintCount, verdictAt, Promise}
 use Rattle.judgement.specs.Judged.{Leaves, Told}
 use Rattle.judgement.specs.NoMoves.{length-held}
 

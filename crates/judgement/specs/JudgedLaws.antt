@@ -9,13 +9,14 @@ use lib.ListN.{length}
 use Rattle.meaning.specs.Plan.{constraintLength}
 use Rattle.refusals.specs.declared.Refusal.{Refusal}
 use Rattle.form.specs.declared.Head.{Head}
-use Rattle.form.specs.Form.{formIn, Contents, headIn}
+use Rattle.form.specs.Form.{formIn, Contents, headBy, contentsBy}
 use Rattle.form.specs.ContentsLaws.{counted-in}
+use Rattle.form.specs.Refusals.{refusalBy}
 use Rattle.form.specs.Over.{over}
 use Rattle.holding.specs.Held.{contentsHeld, Holds}
 use Rattle.holding.specs.HeldLaws.{holds-contents}
 use Rattle.judgement.specs.declared.Judged.{Judged}
-use Rattle.judgement.specs.Judgement.{verdictsHeld, totalHeld, contentsBy, refusalBy, Judgement, judged, refusedFor, judgement}
+use Rattle.judgement.specs.Judgement.{verdictsHeld, totalHeld, Judgement, judged, refusedFor, judgement}
 use Rattle.judgement.specs.Judged.{numbers, Leaves}
 
 -- a sheet that is refused is judged so
@@ -40,7 +41,7 @@ module _ (sheet : List ℕ) {r : Refusal} {held : List ℕ} (p : Holds (formIn s
   leaves-refused n = leaves-by (judgement-refused sheet (rw (p .refusal) at n)) (rw (p .refusal)) refl refl
 
   -- a sheet that is not: its constraints and the verdicts on them are left
-  pub leaves-judged : {h : Head} {cs cs′ vs vs′ : List ℕ} {sum : ℕ} → r .code ≡ 0 → h ≡ headIn (formIn sheet) sheet → let k = contentsHeld h held in
+  pub leaves-judged : {h : Head} {cs cs′ vs vs′ : List ℕ} {sum : ℕ} → r .code ≡ 0 → h ≡ headBy sheet → let k = contentsHeld h held in
       cs′ ≡ over (k .constraints) cs → sum ≡ totalHeld k → vs′ ≡ over (verdictsHeld k) vs
       → Leaves sheet cs vs (record { code = 0; place = 0; constraints = h .constraints; total = sum }) cs′ vs′
   unfolding judged

@@ -13,8 +13,8 @@ use Rattle.meaning.specs.Moves.{verdictLength, verdicts}
 use Rattle.refusals.specs.declared.Refusal.{Refusal}
 use Rattle.refusals.specs.Table.{none}
 use Rattle.report.specs.Text.{verdictText, refusedText, mostText}
-use Rattle.form.specs.Form.{formIn, Contents, contentsIn}
-use Rattle.form.specs.Refusals.{sheetRefusal}
+use Rattle.form.specs.Form.{Contents, contentsBy}
+use Rattle.form.specs.Refusals.{refusalBy}
 use Rattle.form.specs.Over.{over}
 
 -- the plan of some contents
@@ -28,13 +28,6 @@ verdictsHeld k = verdicts (planHeld k) (k .colouring)
 -- their total
 abbrev pub totalHeld : Contents → ℕ
 totalHeld k = total (planHeld k) (k .colouring)
-
--- which sheet bytes are goes by their letters
-abbrev pub contentsBy : List ℕ → Contents
-contentsBy sheet = contentsIn (formIn sheet) sheet
-
-abbrev pub refusalBy : List ℕ → Refusal
-refusalBy sheet = sheetRefusal (formIn sheet) sheet
 
 -- what a sheet comes to: why it is refused, or its constraints, the verdict on each and the total
 pub record Judgement : Type 0 where

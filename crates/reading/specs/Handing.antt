@@ -3,9 +3,7 @@
 use Prim.Native.Nat.{ℕ, _*_, _≤_}
 use native.Mathlib.Omega.{arith}
 use mathlib.Core.Path.{_≡_, ap}
-use mathlib.Core.Bool.{Bool, _&&_}
 use mathlib.Core.List.{List}
-use lib.Dec.{leb}
 use lib.ListN.{length}
 use Rattle.meaning.specs.Plan.{edgeLength, visitLength, constraintLength}
 use Rattle.form.specs.declared.Head.{Head}
@@ -13,17 +11,6 @@ use Rattle.form.specs.Form.{Contents}
 use Rattle.form.specs.Over.{over}
 
 -- lists of these lengths have room for so many of each
-abbrev pub enough : Head → ℕ → ℕ → ℕ → ℕ → ℕ → ℕ → ℕ → Bool
-enough h workloads outside edges counts visits constraints colouring =
-    leb (h .regions) workloads
-    && leb (h .regions) outside
-    && leb (edgeLength * h .edges) edges
-    && leb (h .flights) counts
-    && leb (visitLength * h .visits) visits
-    && leb (constraintLength * h .constraints) constraints
-    && leb (h .regions) colouring
-
--- so said by numbers
 pub record Room (h : Head) (workloads outside edges counts visits constraints colouring : ℕ) : Type 0 where
   pub for-workloads : h .regions ≤ workloads
   pub for-outside : h .regions ≤ outside

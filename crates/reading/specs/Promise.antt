@@ -10,7 +10,7 @@ use Rattle.meaning.specs.Plan.{edgeLength, visitLength, constraintLength}
 use Rattle.refusals.specs.declared.Refusal.{Refusal}
 use Rattle.refusals.specs.Table.{whole, refusal}
 use Rattle.form.specs.declared.Head.{Head}
-use Rattle.form.specs.Form.{formIn, Contents, headIn, contentsIn}
+use Rattle.form.specs.Form.{formIn, headBy, contentsBy}
 use Rattle.form.specs.Refusals.{openTable, heldTable}
 use Rattle.form.specs.Over.{over}
 use Rattle.reading.specs.declared.Read.{Read}
@@ -26,26 +26,23 @@ pub record Input : Type 0 where
   pub constraints : List ℕ
   pub colouring : List ℕ
 
--- which sheet it is goes by its letters
-abbrev pub headRead : Input → Head
-headRead i = headIn (formIn (i .sheet)) (i .sheet)
-
-abbrev pub contentsRead : Input → Contents
-contentsRead i = contentsIn (formIn (i .sheet)) (i .sheet)
-
 -- ---- what it refuses
 
--- the lent lists are long enough for the contents
+-- lists of these lengths are long enough for so many of each
+abbrev pub enough : Head → ℕ → ℕ → ℕ → ℕ → ℕ → ℕ → ℕ → Bool
+enough h workloads outside edges counts visits constraints colouring =
+    leb (h .regions) workloads
+    && leb (h .regions) outside
+    && leb (edgeLength * h .edges) edges
+    && leb (h .flights) counts
+    && leb (visitLength * h .visits) visits
+    && leb (constraintLength * h .constraints) constraints
+    && leb (h .regions) colouring
+
+-- the lent lists are
 unfoldable pub roomRight : Input → Bool
 roomRight i =
-    let h = headRead i in
-    leb (h .regions) (length (i .workloads))
-    && leb (h .regions) (length (i .outside))
-    && leb (edgeLength * h .edges) (length (i .edges))
-    && leb (h .flights) (length (i .counts))
-    && leb (visitLength * h .visits) (length (i .visits))
-    && leb (constraintLength * h .constraints) (length (i .constraints))
-    && leb (h .regions) (length (i .colouring))
+    enough (headBy (i .sheet)) (length (i .workloads)) (length (i .outside)) (length (i .edges)) (length (i .counts)) (length (i .visits)) (length (i .constraints)) (length (i .colouring))
 
 -- what the sheet is refused for, then 39 for the lent lists
 unfoldable pub readRefusal : Input → Refusal
@@ -100,9 +97,9 @@ refusedBy i r =
 -- a reading that is not refused leaves the contents in the lent lists
 unfoldable pub held : Input → Outcome
 held i =
-    let k = contentsRead i in
+    let k = contentsBy (i .sheet) in
     record {
-      answer = heldAnswer (headRead i);
+      answer = heldAnswer (headBy (i .sheet));
       workloads = over (k .workloads) (i .workloads);
       outside = over (k .outside) (i .outside);
       edges = over (k .edges) (i .edges);

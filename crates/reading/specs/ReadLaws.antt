@@ -12,12 +12,12 @@ use Rattle.meaning.specs.Plan.{edgeLength, visitLength, constraintLength}
 use Rattle.refusals.specs.declared.Refusal.{Refusal}
 use Rattle.refusals.specs.Table.{refused, whole, refusal}
 use Rattle.form.specs.declared.Head.{Head}
-use Rattle.form.specs.Form.{formIn, Contents}
+use Rattle.form.specs.Form.{formIn, Contents, headBy, contentsBy}
 use Rattle.form.specs.Accepted.{rows-refused, rows-passed}
 use Rattle.holding.specs.Held.{contentsHeld, Holds}
 use Rattle.reading.specs.declared.Read.{Read}
-use Rattle.reading.specs.Promise.{Input, headRead, contentsRead, roomRight, readRefusal, Outcome, refusedAnswer, heldAnswer, refusedBy, held, outcome, Promise, left}
-use Rattle.reading.specs.Handing.{enough, Room, HandedOver}
+use Rattle.reading.specs.Promise.{Input, enough, roomRight, readRefusal, Outcome, refusedAnswer, heldAnswer, refusedBy, held, outcome, Promise, left}
+use Rattle.reading.specs.Handing.{Room, HandedOver}
 
 -- all seven parts of a test that passes pass
 all-seven : (a b c d e f g : Bool) → T (a && b && c && d && e && f && g) → T a × (T b × (T c × (T d × (T e × (T f × T g)))))
@@ -55,7 +55,7 @@ module _ (i : Input) {r : Refusal} {memory : List ℕ} (p : Holds (formIn (i .sh
   promise-refused n a =
       untouched (rows-refused (formIn (i .sheet)) (i .sheet) (whole 39 (roomRight i) ∷ []) (rw (p .refusal) at n) ∙ sym (p .refusal)) n a
 
-  module _ (z : r .code ≡ 0) {h : Head} (k : h ≡ headRead i) {b : Bool}
+  module _ (z : r .code ≡ 0) {h : Head} (k : h ≡ headBy (i .sheet)) {b : Bool}
       (m : b ≡ enough h (length (i .workloads)) (length (i .outside)) (length (i .edges)) (length (i .counts)) (length (i .visits)) (length (i .constraints)) (length (i .colouring)))
     where
       rows-left : readRefusal i ≡ refusal (whole 39 b ∷ [])
@@ -68,7 +68,7 @@ module _ (i : Input) {r : Refusal} {memory : List ℕ} (p : Holds (formIn (i .sh
       unfolding refusal
       promise-short f a = untouched (rows-left ∙ rw f) (λ e. omega arith) a
 
-      handed : {x : Contents} {w o e c v t s : List ℕ} → b ≡ true → x ≡ contentsRead i
+      handed : {x : Contents} {w o e c v t s : List ℕ} → b ≡ true → x ≡ contentsBy (i .sheet)
           → HandedOver x (i .workloads) (i .outside) (i .edges) (i .counts) (i .visits) (i .constraints) (i .colouring) w o e c v t s → Promise i (left (heldAnswer h) w o e c v t s)
       unfolding refusal outcome held
       handed y same g =

@@ -11,12 +11,12 @@ use Rattle.blocks.specs.declared.Due.{Due}
 use Rattle.blocks.specs.Block.{payloadOf, wrong}
 use Rattle.blocks.specs.Section.{noDue}
 use Rattle.blocks.specs.Sheet.{blockAt}
-use Rattle.form.specs.Form.{letters, formIn, dues, headIn}
+use Rattle.form.specs.Form.{letters, formIn, dues, headBy}
 use Rattle.form.specs.Refusals.{openTable}
 
 -- the blocks due of a sheet
 abbrev pub duesIn : List ℕ → List Due
-duesIn sheet = dues (formIn sheet) (headIn (formIn sheet) sheet)
+duesIn sheet = dues (formIn sheet) (headBy sheet)
 
 -- what is due of block n
 abbrev pub dueAt : List ℕ → ℕ → Due

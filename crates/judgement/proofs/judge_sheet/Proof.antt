@@ -6,7 +6,7 @@ use mathlib.Core.List.{List}
 use borrow.Author.Needs.{needs}
 use lib.ListN.{length}
 use Rattle.form.specs.declared.Form.{Form}
-use Rattle.form.specs.Form.{formIn, headIn}
+use Rattle.form.specs.Form.{headIn, headBy}
 use Rattle.form.specs.FormLaws.{Bounded}
 use Rattle.form.specs.Over.{over}
 use Rattle.holding.specs.HeldLaws.{counted-held, holds-head, holds-bounded, holds-taken}
@@ -15,7 +15,7 @@ use Rattle.judgement.proofs.judge_sheet.Statement.{statement}
 use Rattle.judgement.proofs.judge_sheet.Tie as tie
 
 -- the head is that of the sheet as its letters have it
-head : (c : tie.After-head-in) → c .head-in .result ≡ headIn (formIn (c .before .before .before .before .before .before .before .before .before .before .args .sheet .now)) (c .before .before .before .before .before .before .before .before .before .before .args .sheet .now)
+head : (c : tie.After-head-in) → c .head-in .result ≡ headBy (c .before .before .before .before .before .before .before .before .before .before .args .sheet .now)
 head c = c .head-in .ensures ∙ ap (λ (f : Form). headIn f (c .before .before .before .before .before .before .before .before .before .before .args .sheet .now)) (c .before .of .ensures)
 
 -- so its numbers are within the limits

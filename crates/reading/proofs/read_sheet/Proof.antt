@@ -5,7 +5,7 @@ use borrow.Author.Tests.{not-true, not-false}
 use borrow.Author.Needs.{needs}
 use lib.ListN.{length}
 use Rattle.form.specs.declared.Form.{Form}
-use Rattle.form.specs.Form.{formIn, headIn}
+use Rattle.form.specs.Form.{headIn, headBy}
 use Rattle.holding.specs.HeldLaws.{holds-head, holds-bounded}
 use Rattle.reading.specs.Promise.{Input, input}
 use Rattle.reading.specs.ReadLaws.{enough-room, promise-refused, promise-short, promise-held}
@@ -17,7 +17,7 @@ abbrev given : tie.Start → Input
 given s = let a = s .args in input (a .sheet .now) (a .workloads .now) (a .outside .now) (a .edges .now) (a .counts .now) (a .visits .now) (a .constraints .now) (a .colouring .now)
 
 -- the head is that of the sheet as its letters have it
-head : (c : tie.After-head-in) → c .head-in .result ≡ headIn (formIn (c .before .before .before .before .before .before .before .before .before .before .before .before .before .before .before .args .sheet .now)) (c .before .before .before .before .before .before .before .before .before .before .before .before .before .before .before .args .sheet .now)
+head : (c : tie.After-head-in) → c .head-in .result ≡ headBy (c .before .before .before .before .before .before .before .before .before .before .before .before .before .before .before .args .sheet .now)
 head c = c .head-in .ensures ∙ ap (λ (f : Form). headIn f (c .before .before .before .before .before .before .before .before .before .before .before .before .before .before .before .args .sheet .now)) (c .before .of .ensures)
 
 slice-aggregate-read : tie.Need-slice-aggregate-read

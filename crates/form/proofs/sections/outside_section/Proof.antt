@@ -11,15 +11,12 @@ outside-count-requires c κs = search needs
 array-read-t7 : tie.Need-array-read-t7
 array-read-t7 c = search needs
 
-mul-t8 : tie.Need-mul-t8
-mul-t8 c = search needs
-
-mul-t10 : tie.Need-mul-t10
-mul-t10 c = omega (arith, c .outside-count .ensures, few-outside (c .before .args .form) (c .before .args .head .regions))
+mul-t9 : tie.Need-mul-t9
+mul-t9 c = omega (arith, c .outside-count .ensures, few-outside (c .before .args .form) (c .before .args .head .regions))
 
 returns : tie.Need-returns
 returns c = rw (c .outside-count .ensures)
 
 pub outside-section-spec : {M : Type 1} → statement M
 outside-section-spec =
-    tie.close (tie.spec outside-count-requires array-read-t7 mul-t8 mul-t10 returns)
+    tie.close (tie.spec outside-count-requires array-read-t7 mul-t9 returns)
