@@ -5,6 +5,8 @@ pub mod Work
 pub mod Sums
 pub mod Cutting
 pub mod Rows
+pub mod Refused
+pub mod Zeros
 pub mod Probes
 pub mod Recolourings
 pub mod Tables

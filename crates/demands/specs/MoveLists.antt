@@ -103,11 +103,11 @@ module _ (P : Plan) (xs : List ℕ) (k : ℕ) (h : k < length xs / moveLength) w
       rw (drop-cons xs (moveLength * k) 0 (omega arith), e0, drop-cons xs (moveLength * k + 1) 0 (omega arith), e1, drop-cons xs (moveLength * k + 2) 0 (omega arith), e2)
 
   -- the numbers before move k are three a move
-  length-before : length (take (moveLength * k) xs) ≡ moveLength * k
+  pub length-before : length (take (moveLength * k) xs) ≡ moveLength * k
   length-before = length-take-le (moveLength * k) xs (omega arith)
 
   -- and so in whole moves
-  whole-before : Whole (take (moveLength * k) xs)
+  pub whole-before : Whole (take (moveLength * k) xs)
   whole-before = whole (take (moveLength * k) xs) (omega (arith, length-before))
 
   -- the moves of a flat list are those before move k, move k, and those after it

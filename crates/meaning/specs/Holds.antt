@@ -1,14 +1,15 @@
--- What it means that a constraint holds, kind by kind, and that the total is 0.
+-- What it means that a constraint holds, kind by kind, that its verdict says so, and that the total is 0.
 -- Assumes nothing.
-use Prim.Native.Nat.{ℕ, _+_, _*_, _≤_}
+use Prim.Native.Nat.{ℕ, zero, suc, _+_, _*_, _≤_, _<_}
 use native.Mathlib.Nat.{mul-zero, mul-le-mul-right}
 use native.Mathlib.Omega.{arith}
 use native.Mathlib.Decide.{ℕ-discrete}
 use mathlib.Core.Path.{_≡_, refl, ap, _∙_}
-use mathlib.Core.List.{List}
+use mathlib.Core.List.{List, [], _∷_}
 use mathlib.Core.Logic.{_↔_, Iff·trans}
 use mathlib.Core.Bool.{Bool, true, false, not, false≢true}
 use borrow.Author.Tests.{eqb-true, eq-eqb}
+use lib.ListN.{length, getD}
 use Rattle.lists.specs.Sums.{bit, sum, Every}
 use Rattle.lists.specs.SumLaws.{zero-each, every-all, every-turn}
 use Rattle.terms.specs.Distance.{stands}
@@ -16,6 +17,11 @@ use Rattle.terms.specs.DistanceLaws.{distance-zero}
 use Rattle.meaning.specs.Plan.{Constraint, Plan}
 use Rattle.meaning.specs.Stretches.{stretches, dwellOf}
 use Rattle.meaning.specs.Kinds.{nccAll, border, counts, loads, deviation, connected, bounded, dwelling, byKind, violation, holds, total}
+use Rattle.meaning.specs.Moves.{verdictLength, verdict, verdictsOf}
+
+-- each of the first n verdicts of a flat list says 1: its constraint holds
+abbrev pub SayHolds : ℕ → List ℕ → Type 0
+SayHolds n verdicts = (k : ℕ) → k < n → getD verdicts (verdictLength * k) 0 ≡ 1
 
 -- where each term is 0 exactly when Q holds of its place, in the list or not, the sum is 0 exactly when Q holds of all
 zero-all : {A : Type 0} (Q : A → Type 0) (xs : List A) (f : A → ℕ) → ((x : A) → (f x ≡ 0 ↔ Q x)) → sum xs f ≡ 0 ↔ Every Q xs
@@ -64,6 +70,11 @@ failed-zero : (t : Bool) → bit (not t) ≡ 0 ↔ t ≡ true
 failed-zero true = (λ e. refl, λ e. refl)
 failed-zero false = (λ e. absurd (omega arith), λ e. absurd (false≢true e))
 
+-- 1 for a test that passes: 1 exactly when it does
+bit-one : (t : Bool) → bit t ≡ 1 ↔ t ≡ true
+bit-one true = (λ e. refl, λ e. refl)
+bit-one false = (λ e. absurd (omega arith), λ e. absurd (false≢true e))
+
 module _ (P : Plan) (col : List ℕ) where
   -- a constraint holds exactly when its violation is 0
   pub holds-zero : (k : Constraint) → holds P col k ≡ true ↔ violation P col k ≡ 0
@@ -83,6 +94,23 @@ module _ (P : Plan) (col : List ℕ) where
   total-zero h =
       zero-each (λ k. holds P col k ≡ true) (P .constraints) (λ k. k .weight * violation P col k)
       (every-turn weighted-zero (P .constraints) h)
+
+  -- all constraints hold exactly when each verdict says 1
+  pub verdicts-hold : (ks : List Constraint) → Every (λ k. holds P col k ≡ true) ks ↔ SayHolds (length ks) (verdictsOf P col ks)
+  unfolding verdictsOf verdict
+  verdicts-hold [] = (λ e k h. absurd (omega arith), λ f. tt)
+  verdicts-hold (c ∷ ks) =
+      let r = verdicts-hold ks in (
+        λ e. said (r .0 (e .1)) (e .0),
+        λ f. (bit-one (holds P col c) .0 (f 0 (omega arith)), r .1 (λ k h. rw (later k) at (f (suc k) (omega arith)))),
+      )
+    where
+      later : (k : ℕ) → verdictLength * suc k ≡ suc (suc (verdictLength * k))
+      later k = omega arith
+
+      said : SayHolds (length ks) (verdictsOf P col ks) → holds P col c ≡ true → SayHolds (suc (length ks)) (verdictsOf P col (c ∷ ks))
+      said f e zero h = bit-one (holds P col c) .1 e
+      said f e (suc k) h = rw (later k) (f k (omega arith))
 
   module _ (k : Constraint) where
     -- it holds exactly when the number that its violation comes to is 0
