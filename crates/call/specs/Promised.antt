@@ -21,12 +21,14 @@ use Rattle.refusals.specs.Valid.{Valid, valid}
 use Rattle.judge.specs.Figures.{figuresOf, gauges, verdictGaugeOf, verdictGauges, constraintCount, verdictsBy}
 use Rattle.judge.specs.FigureLaws.{gauge-at, verdict-gauges-listOf, verdicts-by}
 use Rattle.judge.specs.Small.{Small, verdicts-small}
+use Rattle.flights.specs.Flying.{Flying}
 use Rattle.flights.specs.Gauged.{dwellGauges}
-use Rattle.call.specs.Promise.{Input, Outcome, given, planIn, movesIn, lastIn, refusedBy, ran, outcome, Promise, left}
+use Rattle.engine.specs.Flown.{Flown}
 use Rattle.engine.specs.State.{memory, memoryLength, Opened}
-use Rattle.call.specs.StateLaws.{memory-length, opened-beyond}
-use Rattle.call.specs.Taken.{moveCount, coloured-last}
 use Rattle.engine.specs.declared.Standing.{Standing}
+use Rattle.turns.specs.StateLaws.{memory-length, opened-beyond}
+use Rattle.turns.specs.Taken.{moveCount, coloured-last}
+use Rattle.call.specs.Promise.{Input, Outcome, given, planIn, movesIn, lastIn, refusedBy, ran, outcome, Promise, left}
 
 -- T, put down after the front of the work memory, makes the work memory of the colouring
 work-put : (P : Plan) (col w : List ℕ) → length (memory P col) ≡ memoryLength P → memoryLength P + 1 ≤ length w
@@ -42,6 +44,10 @@ all-gauged P col constraints e =
     map-ext (from 0 (constraintCount constraints)) _ _
     (every-from _ 0 (constraintCount constraints) (λ i lo hi. rw (gauge-at P col constraints e i (omega arith))))
     ∙ sym (verdict-gauges-listOf P col constraints e)
+
+-- the flights are over as many regions as a colouring has
+pub flown-flying : {P : Plan} {timed counts visits visited flights firsts : List ℕ} {n : ℕ} → Flown P timed counts visits visited flights firsts → n ≡ P .R → Flying n counts visits
+flown-flying f e = rw e (f .priced .flying)
 
 module _ {P : Plan} {col w col′ w′ gs′ : List ℕ} {s : Standing} (constraints : List ℕ) (e : P .constraints ≡ constraintsOf constraints) (o : Opened P col w col′ w′ gs′ s) {all : List ℕ} (d : all ≡ dwellGauges (P .flights) col′ constraints gs′) where
   -- so it is where a judgement leaves the others

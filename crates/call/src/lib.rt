@@ -5,10 +5,6 @@ ghost use Rattle.refusals.specs.Valid.{Valid};
 ghost use Rattle.call.specs.Promise.{Input, Promise, input, given, planIn, left, ran};
 ghost use Rattle.engine.specs.State.{Setting, Opening};
 ghost use Rattle.engine.specs.Flown.{Priced, Flown};
-
-mod rows; // rows.rt: a row, and where it is put down
-mod turns; // turns.rt: the moves in turn
-
 use flights::gauging::gauge_dwells;
 use flights::picking::pick_timed;
 use judge::verdicts::put_verdicts;

@@ -20,7 +20,7 @@ use Rattle.meaning.specs.MoveLaws.{length-rows, length-moves, length-verdicts}
 use Rattle.refusals.specs.Table.{callRefusal}
 use Rattle.refusals.specs.Valid.{Valid, valid}
 use Rattle.call.specs.Promise.{Input, Outcome, Promise, given, planIn, movesIn, lastIn, refusedBy, ran, outcome, is-outcome}
-use Rattle.call.specs.Taken.{coloured-last}
+use Rattle.turns.specs.Taken.{coloured-last}
 
 -- ---- definitions
 

@@ -11,7 +11,7 @@ use Rattle.terms.specs.Moves.{moveOf, status}
 use Rattle.meaning.specs.Plan.{Plan}
 use Rattle.meaning.specs.Moves.{movesOf, delta, row, last}
 use Rattle.call.specs.Promise.{Input, Outcome, Promise, planIn}
-use Rattle.call.specs.Taken.{moveCount}
+use Rattle.turns.specs.Taken.{moveCount}
 use Rattle.demands.specs.MoveNumbers.{isMade, asked, Probes, kind-unmade, accepted-asked, status-numbers, probe-status}
 use Rattle.demands.specs.Calls.{SamePlan, same-plan, verdictsLeft, workLeft, colouring-left, first-total, last-total}
 use Rattle.demands.specs.Sums.{same-verdicts, same-work}

@@ -24,8 +24,8 @@ use Rattle.meaning.specs.Faces.{lift, shares, Shares, shares-true, shares-make,
 use Rattle.meaning.specs.Put.{Put, put-recolour, put-own, in0, in1, joined-up, joined-put}
 use Rattle.meaning.specs.Recoloured.{coloured-recolour, label-rest, ncc-come, ncc-go, ncc-rest}
 use Rattle.call.specs.Promise.{Input, Outcome, Promise, planIn}
-use Rattle.call.specs.Decoded.{move-within}
-use Rattle.call.specs.Taken.{moveCount, coloured-last}
+use Rattle.turns.specs.Decoded.{move-within}
+use Rattle.turns.specs.Taken.{moveCount, coloured-last}
 use Rattle.demands.specs.Calls.{SamePlan, same-plan, call-valid, colouring-left, coloured-left}
 use Rattle.demands.specs.Work.{Numbers, numbersOf, numbersIn, work-labels, work-counts}
 use Rattle.demands.specs.Rows.{kindAt, firstAt, secondAt, colouringAt, rowLeft, colouring-next, accepted-move}

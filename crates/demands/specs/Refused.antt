@@ -15,7 +15,7 @@ use Rattle.meaning.specs.Plan.{Plan}
 use Rattle.meaning.specs.Moves.{moveLength, rowLength, moveAt, movesOf, next, row, cells, rows, last}
 use Rattle.meaning.specs.MoveLaws.{length-rows, length-moves, length-cells}
 use Rattle.call.specs.Promise.{Input, Outcome, Promise, planIn}
-use Rattle.call.specs.Taken.{moveCount}
+use Rattle.turns.specs.Taken.{moveCount}
 use Rattle.demands.specs.MoveLists.{moves-at, moves-append, whole-before, length-before, last-append, rows-append}
 use Rattle.demands.specs.Calls.{SamePlan, same-plan, rowsLeft, colouring-left, rows-left}
 use Rattle.demands.specs.Rows.{colouringAt, rowLeft, row-of-move, colouring-next}

@@ -21,7 +21,7 @@ use Rattle.meaning.specs.Kinds.{total, regionViolation}
 use Rattle.meaning.specs.Moves.{moveLength, moveAt, movesOf, recolour, swap, made, next, delta, differing, relabelled, Row, row, last}
 use Rattle.meaning.specs.MoveLaws.{recolour-own, exchange-alike, made-total, not-made, row-still}
 use Rattle.call.specs.Promise.{Input, Outcome, Promise, planIn, ran}
-use Rattle.call.specs.Taken.{moveCount}
+use Rattle.turns.specs.Taken.{moveCount}
 use Rattle.demands.specs.MoveLists.{rowAt, moves-next, row-at, last-append}
 use Rattle.demands.specs.MoveNumbers.{isMade, asked, statusOf, asked-recolour, asked-exchange, made-numbers, accepted-asked, status-numbers}
 use Rattle.demands.specs.Calls.{SamePlan, same-plan, call-valid, has-run, colouring-left}

@@ -4,8 +4,8 @@ use mathlib.Core.Path.{refl, _∙_}
 use borrow.Author.Needs.{needs}
 use lib.ListN.{length-set}
 use Rattle.flights.specs.Constraints.{length-constraints}
-use Rattle.call.specs.Promised.{opened-small, ran-by}
-use Rattle.call.specs.StateLaws.{setting-queue, opened-ready, flown-flying}
+use Rattle.turns.specs.StateLaws.{setting-queue, opened-ready}
+use Rattle.call.specs.Promised.{flown-flying, opened-small, ran-by}
 use Rattle.call.proofs.judge_all.Statement.{statement}
 use Rattle.call.proofs.judge_all.Tie as tie
 

@@ -16,8 +16,8 @@ use Rattle.meaning.specs.Plan.{Plan, Limits, Coloured}
 use Rattle.meaning.specs.Moves.{moveLength, rowLength, moveAt, movesOf, next, row, cells, rows, last}
 use Rattle.meaning.specs.MoveLaws.{length-cells, length-rows, length-moves}
 use Rattle.engine.specs.State.{memoryLength, Ready, Within, Opened}
-use Rattle.call.specs.StateLaws.{opened-beyond, opened-ready}
-use Rattle.call.specs.Decoded.{move-within, coloured-next}
+use Rattle.turns.specs.StateLaws.{opened-beyond, opened-ready}
+use Rattle.turns.specs.Decoded.{move-within, coloured-next}
 use Rattle.engine.specs.declared.Standing.{Standing}
 
 -- ---- the moves of a flat list

@@ -4,9 +4,9 @@ use native.Mathlib.Omega.{arith}
 use borrow.Author.Needs.{needs}
 use lib.ListN.{length-set}
 use Rattle.meaning.specs.Moves.{rowLength, cells}
-use Rattle.call.specs.RowLaws.{meant, row-stored}
-use Rattle.call.proofs.rows.put_row.Statement.{statement}
-use Rattle.call.proofs.rows.put_row.Tie as tie
+use Rattle.turns.specs.RowLaws.{meant, row-stored}
+use Rattle.turns.proofs.rows.put_row.Statement.{statement}
+use Rattle.turns.proofs.rows.put_row.Tie as tie
 
 cast-status : tie.Need-cast-status
 unfolding cells

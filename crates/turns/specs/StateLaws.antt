@@ -13,8 +13,6 @@ use Rattle.meaning.specs.Kinds.{counts, loads}
 use Rattle.meaning.specs.Moves.{next}
 use Rattle.meaning.specs.Labels.{plan-labels}
 use Rattle.meaning.specs.Components.{counts-length, loads-length}
-use Rattle.flights.specs.Flying.{Flying}
-use Rattle.engine.specs.Flown.{Flown}
 use Rattle.engine.specs.State.{memory, memoryLength, Setting, Ready, Opened, Answered}
 use Rattle.engine.specs.declared.Standing.{Standing}
 use Rattle.engine.specs.declared.Stepped.{Stepped}
@@ -22,10 +20,6 @@ use Rattle.engine.specs.declared.Stepped.{Stepped}
 -- what no move changes holds with any queue of that length
 pub setting-queue : {P : Plan} {W : ℕ} {start near areas q q′ : List ℕ} → Setting P W start near areas q → length q′ ≡ length q → Setting P W start near areas q′
 setting-queue s e = record { limits = s .limits; table = s .table; whole = s .whole; queue = omega (arith, s .queue) }
-
--- the flights are over as many regions as a colouring has
-pub flown-flying : {P : Plan} {timed counts visits visited flights firsts : List ℕ} {n : ℕ} → Flown P timed counts visits visited flights firsts → n ≡ P .R → Flying n counts visits
-flown-flying f e = rw e (f .priced .flying)
 
 module _ {P : Plan} {col : List ℕ} (l : Limits P) (k : Coloured P col) where
   -- R labels, S component counts and S workload sums

@@ -5,10 +5,10 @@ use mathlib.Core.Path.{_≡_, refl}
 use borrow.Author.Needs.{needs}
 use lib.ListN.{length}
 use Rattle.meaning.specs.Plan.{planOf}
-use Rattle.call.specs.StateLaws.{setting-queue}
-use Rattle.call.specs.Taken.{Taken, taken-start, taken-turn, taken-end}
-use Rattle.call.proofs.turns.all_moves.Statement.{statement}
-use Rattle.call.proofs.turns.all_moves.Tie as tie
+use Rattle.turns.specs.StateLaws.{setting-queue}
+use Rattle.turns.specs.Taken.{Taken, taken-start, taken-turn, taken-end}
+use Rattle.turns.proofs.all_moves.Statement.{statement}
+use Rattle.turns.proofs.all_moves.Tie as tie
 
 abbrev Inv-loop : tie.InvT-loop
 Inv-loop sectors whole workloads outside edges counts visits constraints start near areas timed visited flights firsts moves colouring₀ work₀ gauges₀ queue₀ rows₀ n standing₀ k₀ colouring work gauges queue rows standing k =

@@ -7,7 +7,7 @@ ghost use mir.Syntax.{w64};
 ghost use mir.Val.{SFits};
 ghost use Rattle.lists.specs.Sums.{Every};
 ghost use Rattle.meaning.specs.Moves.{rowLength, cells};
-ghost use Rattle.call.specs.RowLaws.{meant};
+ghost use Rattle.turns.specs.RowLaws.{meant};
 use terms::limits::ROW_LENGTH;
 
 // What the row of a move says.

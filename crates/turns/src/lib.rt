@@ -1,4 +1,4 @@
-// The moves in turn: each is judged on the colouring that those before it left, and gets its row.
+// The moves in turn, and their rows: each is judged on the colouring that those before it left, and gets its row.
 ghost use mathlib.Core.Path.{_≡_};
 ghost use mathlib.Core.List.{_++_};
 ghost use Prim.Native.Nat.{_+_, _*_, _/_, _≤_};
@@ -10,6 +10,9 @@ ghost use Rattle.meaning.specs.Moves.{moveLength, rowLength, moveAt, movesOf, n
 ghost use Rattle.meaning.specs.Moves as meaning;
 ghost use Rattle.engine.specs.State.{Setting, Ready, Opened};
 ghost use Rattle.engine.specs.Flown.{Flown};
+
+mod rows; // rows.rt: a row, and where it is put down
+
 use crate::rows::Row;
 use crate::rows::put_row;
 use engine::Standing;

@@ -17,9 +17,9 @@ use Rattle.meaning.specs.Plan.{Plan, Limits}
 use Rattle.meaning.specs.Moves.{Row, row, cells}
 use Rattle.meaning.specs.Deltas.{delta-reads, row-fits}
 use Rattle.engine.specs.State.{Within, Answered}
-use Rattle.call.specs.Decoded.{status-small}
+use Rattle.turns.specs.Decoded.{status-small}
 use Rattle.engine.specs.declared.Stepped.{Stepped}
-use Rattle.call.specs.declared.rows.Row as code
+use Rattle.turns.specs.declared.rows.Row as code
 
 -- what a row says, as four signed numbers
 abbrev pub meant : code.Row → Row

@@ -1,11 +1,11 @@
 -- The move is one of the plan, so that the step answers it, and what it answers is its row.
 use native.Mathlib.Omega.{arith}
 use borrow.Author.Needs.{needs}
-use Rattle.call.specs.Decoded.{move-within}
-use Rattle.call.specs.StateLaws.{answered-opened}
-use Rattle.call.specs.RowLaws.{said-fits, said-put}
-use Rattle.call.proofs.turns.turn.Statement.{statement}
-use Rattle.call.proofs.turns.turn.Tie as tie
+use Rattle.turns.specs.Decoded.{move-within}
+use Rattle.turns.specs.StateLaws.{answered-opened}
+use Rattle.turns.specs.RowLaws.{said-fits, said-put}
+use Rattle.turns.proofs.turn.Statement.{statement}
+use Rattle.turns.proofs.turn.Tie as tie
 
 -- from where the status is known to where the step was taken, the move was made, and all began
 abbrev stepped : tie.After-status-of → tie.After-step

@@ -1,0 +1,4 @@
+pub mod Decoded
+pub mod StateLaws
+pub mod RowLaws
+pub mod Taken
