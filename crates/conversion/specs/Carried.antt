@@ -12,8 +12,9 @@ use lib.ListN.{length, replicate}
 use Rattle.lists.specs.Sums.{sum}
 use Rattle.lists.specs.Tests.{test-same}
 use Rattle.meaning.specs.Plan.{constraintLength, noOutside}
+use Rattle.scans.specs.Items.{firstOff, constraintRight}
 use Rattle.refusals.specs.declared.Refusal.{Refusal}
-use Rattle.refusals.specs.Table.{firstOff, constraintRight, planTable, planRefusal}
+use Rattle.refusals.specs.Table.{planTable, planRefusal}
 use Rattle.refusals.specs.Passed.{passed, passed-none, passed-each, each-passed}
 use Rattle.refusals.specs.FewerKinds.{right-kind, kind-right, passed-other-kinds}
 use Rattle.form.specs.declared.Form.{Form}

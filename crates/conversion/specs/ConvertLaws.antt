@@ -13,8 +13,9 @@ use Rattle.lists.specs.Sums.{sum}
 use Rattle.lists.specs.SumLaws.{few-bound}
 use Rattle.lists.specs.Tests.{test-same}
 use Rattle.meaning.specs.Plan.{constraintLength, mostRegions, mostArea}
+use Rattle.scans.specs.Items.{firstOff, constraintRight}
 use Rattle.refusals.specs.declared.Refusal.{Refusal}
-use Rattle.refusals.specs.Table.{refused, refusal, firstOff, constraintRight}
+use Rattle.refusals.specs.Table.{refused, refusal}
 use Rattle.blocks.specs.Block.{blockLength}
 use Rattle.blocks.specs.Layout as blocks
 use Rattle.form.specs.declared.Form.{Form}

@@ -8,8 +8,9 @@ use lib.Dec.{eqb, leb}
 use lib.ListN.{length}
 use Rattle.terms.specs.Plan.{within}
 use Rattle.meaning.specs.Plan.{constraintLength, constraintAt}
+use Rattle.scans.specs.Items.{firstOff}
 use Rattle.refusals.specs.declared.Refusal.{Refusal}
-use Rattle.refusals.specs.Table.{Row, whole, firstOff, refusal}
+use Rattle.refusals.specs.Table.{Row, whole, refusal}
 use Rattle.form.specs.declared.Form.{Form}
 use Rattle.form.specs.declared.Form.the-variants.{First, Second}
 use Rattle.form.specs.Form.{kindCount, Contents, carried, sheetOf, contentsIn}

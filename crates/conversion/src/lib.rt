@@ -27,7 +27,7 @@ use holding::places::visits_in;
 use holding::places::workloads_in;
 use lists::sum_of;
 use refusals::Refusal;
-use refusals::scans::first_bad_constraint;
+use scans::first_bad_constraint;
 use sheet::opening::head_in;
 use terms::limits::BOUNDED;
 use writing::Written;

@@ -10,7 +10,8 @@ use lib.Dec.{T}
 use lib.ListN.{length, getD}
 use Rattle.lists.specs.Sums.{In, sum}
 use Rattle.meaning.specs.Plan.{edgeLength, visitLength, constraintLength, mostWorkload, mostArea, mostFlights, mostVisits, mostKind}
-use Rattle.refusals.specs.Table.{refused, refusal, atMost, edgeRight, countRight, flightRight, constraintRight, sectorRight, planTable, roomTable, callTable, callRefusal}
+use Rattle.scans.specs.Items.{atMost, edgeRight, countRight, flightRight, constraintRight, sectorRight}
+use Rattle.refusals.specs.Table.{refused, refusal, planTable, roomTable, callTable, callRefusal}
 use Rattle.refusals.specs.Valid.{refusal-place}
 use Rattle.call.specs.Promise.{Input, Outcome, Promise, given, refusedBy, ran, outcome, is-outcome}
 use Rattle.demands.specs.Calls.{answer-code}

@@ -17,7 +17,8 @@ use Rattle.lists.specs.Tests.{or-cases}
 use Rattle.terms.specs.Plan.{within}
 use Rattle.meaning.specs.Plan.{Visit, VisitLimits, edgeLength, visitLength, constraintLength, edgeAt, constraintAt, mostRegions, mostSectors, mostWorkload, mostEdges, mostArea, mostFlights, mostVisits, mostDwell, mostKind, mostConstraints, mostLimit, mostWeight, mostMoves}
 use Rattle.meaning.specs.Moves.{moveLength, rowLength, verdictLength}
-use Rattle.refusals.specs.Table.{Row, refused, none, whole, each, offFrom, firstOff, refusal, atMost, edgeRight, countRight, visitsRight, flightRight, constraintRight, sectorRight, records, planTable, roomTable, Given, callTable}
+use Rattle.scans.specs.Items.{offFrom, firstOff, atMost, edgeRight, countRight, visitsRight, flightRight, constraintRight, sectorRight, records}
+use Rattle.refusals.specs.Table.{Row, refused, none, whole, each, refusal, planTable, roomTable, Given, callTable}
 use Rattle.refusals.specs.Passed.{passed-each, each-passed}
 use Rattle.demands.specs.Tables.{inOrder, Stand, first-or-others}
 use Rattle.demands.specs.Rules.{Each, First, ListPlace, EdgeRules, ConstraintRules, rules}

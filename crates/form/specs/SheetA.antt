@@ -2,7 +2,8 @@
 -- Assumes nothing.
 use mathlib.Core.Path.{_≡_, refl}
 use mathlib.Core.List.{[], _∷_}
-use Rattle.refusals.specs.Table.{refusal, none, planTable, planRefusal, offFrom, edgeRight, visitsRight, constraintRight}
+use Rattle.scans.specs.Items.{offFrom, edgeRight, visitsRight, constraintRight}
+use Rattle.refusals.specs.Table.{refusal, none, planTable, planRefusal}
 use Rattle.meaning.specs.Plan.{edgesOf, visitsOf, flightsOf, constraintsOf}
 use Rattle.blocks.specs.Block.{header, body, blockOf, firstWrong, wrong}
 use Rattle.form.specs.declared.Form.the-variants.{First, Second}

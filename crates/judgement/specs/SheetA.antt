@@ -9,7 +9,8 @@ use Rattle.meaning.specs.Kinds.{ncc, nccAll, load, whole, outsideArea, border, 
 use Rattle.meaning.specs.Kinds as kinds
 use Rattle.meaning.specs.Stretches.{before, stretches}
 use Rattle.meaning.specs.Moves.{verdict, verdictsOf}
-use Rattle.refusals.specs.Table.{none, refusal, planTable, planRefusal, offFrom, edgeRight, visitsRight, constraintRight}
+use Rattle.scans.specs.Items.{offFrom, edgeRight, visitsRight, constraintRight}
+use Rattle.refusals.specs.Table.{none, refusal, planTable, planRefusal}
 use Rattle.report.specs.Decimal.{decimal, spelled}
 use Rattle.report.specs.Text.{ascii, number, line, lines, totalLine, verdictText, refusedText}
 use Rattle.form.specs.declared.Form.{Form}

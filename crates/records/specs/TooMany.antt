@@ -7,7 +7,8 @@ use mathlib.Core.Bool.{Bool, true, false, not, true≢false}
 use mathlib.Core.List.{List, _++_}
 use lib.ListN.{length}
 use Rattle.meaning.specs.Plan.{constraintLength, mostConstraints}
-use Rattle.refusals.specs.Table.{Row, refusal, records, planTable, planRefusal}
+use Rattle.scans.specs.Items.{records}
+use Rattle.refusals.specs.Table.{Row, refusal, planTable, planRefusal}
 use Rattle.refusals.specs.Passed.{passed, front-given, passed-records}
 
 -- more numbers than 16 constraints have

@@ -9,7 +9,8 @@ use lib.Dec.{eqb, leb, T, le→leb}
 use lib.ListN.{length}
 use Rattle.terms.specs.Plan.{within}
 use Rattle.meaning.specs.Plan.{constraintLength, constraintAt, mostLimit, mostWeight}
-use Rattle.refusals.specs.Table.{firstOff, takes, constraintRight, planTable, planRefusal}
+use Rattle.scans.specs.Items.{firstOff, takes, constraintRight}
+use Rattle.refusals.specs.Table.{planTable, planRefusal}
 use Rattle.refusals.specs.Passed.{Passed, passed, all-five, in-limits, passed-each, each-passed}
 
 -- where four tests pass, so they do with another first one that passes

@@ -12,7 +12,8 @@ use lib.ListN.{length}
 use Rattle.lists.specs.Sums.{In, from, Every}
 use Rattle.lists.specs.SumLaws.{every-from, from-every}
 use Rattle.terms.specs.Plan.{within}
-use Rattle.refusals.specs.Table.{Row, refused, none, offFrom, firstOff, refusal, records}
+use Rattle.scans.specs.Items.{offFrom, firstOff, records}
+use Rattle.refusals.specs.Table.{Row, refused, none, refusal}
 use Rattle.refusals.specs.Turn.{coded, coded-first, coded-rest}
 
 -- no row is given

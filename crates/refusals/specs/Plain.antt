@@ -9,7 +9,8 @@ use lib.ListN.{length, take, length-replicate, getD-replicate}
 use borrow.Author.Tests.{eq-eqb}
 use Rattle.meaning.specs.Plan.{mostArea, noOutside}
 use Rattle.refusals.specs.declared.Refusal.{Refusal}
-use Rattle.refusals.specs.Table.{none, whole, each, firstOff, atMost, planTable, planRefusal}
+use Rattle.scans.specs.Items.{firstOff, atMost}
+use Rattle.refusals.specs.Table.{none, whole, each, planTable, planRefusal}
 use Rattle.refusals.specs.Passed.{each-passed}
 use Rattle.refusals.specs.Turn.{after, inTurn, after-passed, onSizes, onRegions, fromEdges, plan-in-turn}
 

@@ -15,7 +15,8 @@ use Rattle.terms.specs.Plan.{within}
 use Rattle.meaning.specs.Plan.{Visit, edgeLength, visitLength, constraintLength, edgeAt, constraintAt, edgesOf, flightsOf, constraintsOf, planOf, mostRegions, mostSectors, mostWorkload, mostEdges, mostArea, mostFlights, mostVisits, mostDwell, mostKind, mostConstraints, mostLimit, mostWeight, mostMoves, EdgeLimits, VisitLimits, FlightLimits, ConstraintLimits, Limits, Coloured}
 use Rattle.meaning.specs.Flights.{length-flight, length-flightsOf}
 use Rattle.meaning.specs.Moves.{moveLength, rowLength, verdictLength}
-use Rattle.refusals.specs.Table.{firstOff, atMost, edgeRight, countRight, visitsRight, flightRight, takes, constraintRight, sectorRight, planTable, roomTable, Given, callTable, callRefusal, planRefusal}
+use Rattle.scans.specs.Items.{firstOff, atMost, edgeRight, countRight, visitsRight, flightRight, takes, constraintRight, sectorRight}
+use Rattle.refusals.specs.Table.{planTable, roomTable, Given, callTable, callRefusal, planRefusal}
 use Rattle.refusals.specs.Passed.{Passed, passed, passed-none, passed-more, both, all-five, in-limits, passed-in, passed-equal, passed-most, passed-records, passed-each}
 
 -- a plan within the limits, in whole records, with the visits that its flights' counts ask for, with at least one constraint and with a colouring

@@ -7,11 +7,9 @@ ghost use lib.ListN.{length};
 ghost use Rattle.lists.specs.Sums.{sum};
 ghost use Rattle.lists.specs.Few.{Few};
 ghost use Rattle.meaning.specs.Plan.{edgeLength, visitLength, constraintLength, mostEdges, mostFlights, mostVisits, mostConstraints, noOutside};
-ghost use Rattle.refusals.specs.Table.{none, whole, item, each, records, atMost, edgeRight, countRight, flightRight, constraintRight, sectorRight, given, planRefusal, callRefusal};
+ghost use Rattle.scans.specs.Items.{records, atMost, edgeRight, countRight, flightRight, constraintRight, sectorRight};
+ghost use Rattle.refusals.specs.Table.{none, whole, item, each, given, planRefusal, callRefusal};
 ghost use Rattle.refusals.specs.Turn.{after, inTurn, onSizes, onRegions, fromEdges};
-
-pub mod scans;
-
 use lists::sum_of;
 use terms::in_limits;
 use terms::limits;
