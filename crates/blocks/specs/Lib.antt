@@ -7,6 +7,7 @@ pub mod Section
 pub mod SectionLaws
 pub mod Sheet
 pub mod SheetLaws
+pub mod Shown
 pub mod Layout
 pub mod InTurn
 pub mod Scan

@@ -4,9 +4,10 @@ ghost use Prim.Native.Nat.{_+_, _*_, _/_, _≤_};
 ghost use lib.ListN.{length, drop};
 ghost use Rattle.packing.specs.Put.{put};
 ghost use Rattle.packing.specs.Numbers.{unpack, rep};
-ghost use Rattle.blocks.specs.Block.{blockLength, mostPayload, payloadOf};
+ghost use Rattle.blocks.specs.Block.{blockLength, mostPayload};
 ghost use Rattle.blocks.specs.Section.{blocksOf, sectionDues};
-ghost use Rattle.blocks.specs.Sheet.{blockAt, streamFrom};
+ghost use Rattle.blocks.specs.Sheet.{streamFrom};
+ghost use Rattle.blocks.specs.Shown.{payloadPart, PartOf};
 ghost use Rattle.blocks.specs.Whole.{Whole};
 use crate::BLOCK_LENGTH;
 use crate::HEADER_LENGTH;
@@ -17,7 +18,7 @@ use packing::read_records;
 // The used payload of a block, as that part of the sheet.
 pub fn payload(sheet: &[u8], number: usize, used: usize) -> &[u8]
     requires { ⌜ (blockLength * number + blockLength ≤ length (now sheet)) × (used ≤ mostPayload) ⌝ }
-    ensures { λ r. ⌜ now r ≡ payloadOf used (blockAt (now (sheet .entry)) number) ⌝ }
+    ensures { λ r. ⌜ PartOf (sheet .entry) (payloadPart number used) r ⌝ }
 {
     let at = BLOCK_LENGTH * number + HEADER_LENGTH;
     let end = at + used;

@@ -39,7 +39,7 @@ module _ {lent : RefT (List ℕ)} {n : ℕ} {r : Reader} (k : Keeps lent n r) wh
   keeps-moved h = record { sheet = h .sheet ∙ k .sheet; place = h .place }
 
   -- what its block shows is what that block of the sheet shows
-  pub keeps-shown : {p : List ℕ} → Showing.Promise (now (r .sheet)) (r .place) p → Showing.Promise (now lent) n p
+  pub keeps-shown : {p : RefT (List ℕ)} → Showing.Promise (r .sheet) (r .place) p → Showing.Promise lent n p
   keeps-shown h = rw (k .sheet, k .place) at h
 
   -- what is held through it is what is held of the sheet

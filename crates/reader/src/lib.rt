@@ -60,7 +60,7 @@ pub fn past_end<'a>(reader: Reader<'a>) -> bool
 
 // Shows the used payload of the reader's block, as that part of the sheet; of a block that is refused or not there, an empty part.
 pub fn part<'a>(reader: Reader<'a>) -> &'a [u8]
-    ensures { λ p. ⌜ Shows (now (reader .entry .sheet)) (reader .entry .place) (now p) ⌝ }
+    ensures { λ p. ⌜ Shows (reader .entry .sheet) (reader .entry .place) p ⌝ }
 {
     showing::block(reader.sheet, reader.place)
 }
@@ -75,7 +75,7 @@ pub fn read_all<'a>(reader: Reader<'a>, held: &mut [u64]) -> Refusal
 
 // Shows the used payload of a block, through a reader; with plain parameters, so that a caller needs no proof by hand.
 pub fn show(sheet: &[u8], number: usize) -> &[u8]
-    ensures { λ p. ⌜ Shows (now (sheet .entry)) number (now p) ⌝ }
+    ensures { λ p. ⌜ Shows (sheet .entry) number p ⌝ }
 {
     part(moved(opened(sheet), number))
 }

@@ -3,11 +3,12 @@
 use Prim.Native.Nat.{ℕ, _+_, _*_, _≤_, _<_}
 use native.Mathlib.Omega.{arith}
 use mathlib.Core.Path.{_≡_, refl, sym, subst, _∙_}
-use mathlib.Core.Bool.{Bool, true, false, not, and-eq-true-iff}
+use mathlib.Core.Bool.{Bool, true, false, cond, not, _&&_, and-eq-true-iff, true≢false}
 use mathlib.Core.List.{List, []}
 use borrow.Author.Tests.{eqb-true, ltb-true, ltb-false, leb-true, not-true, not-false, eq-eqb, ne-eqb, le-ltb, le-leb}
 use lib.Dec.{ltb, leb}
 use lib.ListN.{length, getD}
+use denote.Ref.{RefT, now}
 use Rattle.lists.specs.Tests.{test-same}
 use Rattle.refusals.specs.declared.Refusal.{Refusal}
 use Rattle.refusals.specs.Table.{refusal}
@@ -16,14 +17,15 @@ use Rattle.blocks.specs.Block.{blockLength, mostPayload, payloadOf, wrong}
 use Rattle.blocks.specs.Section.{noDue}
 use Rattle.blocks.specs.SectionLaws.{small-at}
 use Rattle.blocks.specs.Sheet.{blockAt}
+use Rattle.blocks.specs.Shown.{Extent, bytesIn, noPart, payloadPart, PartOf, payload-bytes}
 use Rattle.form.specs.declared.Head.{Head}
 use Rattle.form.specs.declared.Form.{Form}
-use Rattle.form.specs.Form.{letters, formIn, dues, headIn}
+use Rattle.form.specs.Form.{letters, formIn, dues, headIn, headBy}
 use Rattle.form.specs.FormLaws.{small-form}
 use Rattle.form.specs.Firsts.{some-blocks}
 use Rattle.form.specs.Refusals.{openTable}
 use Rattle.form.specs.Accepted.{Opened, opened, opened-blocks}
-use Rattle.sheet.specs.Showing.{duesIn, there, pastEnd, nextPlace, sound, shown, Promise}
+use Rattle.sheet.specs.Showing.{duesIn, dueAt, there, pastEnd, nextPlace, sound, shownPart, shown, Promise}
 
 -- block n is one of those due of an opened sheet
 pub record DueThere (sheet : List ℕ) (n : ℕ) : Type 0 where
@@ -68,10 +70,10 @@ module _ (sheet : List ℕ) (n : ℕ) {b : Bool} (e : b ≡ pastEnd sheet n) whe
   unfolding nextPlace
   next-there z = rw (is-there z)
 
-  -- nothing is shown where there is no block
-  pub shown-past : {p : List ℕ} → b ≡ true → p ≡ [] → Promise sheet n p
-  unfolding shown
-  shown-past z p = record { part = p ∙ rw (is-past z) }
+  -- where there is no block, the empty part is shown
+  pub shown-past : b ≡ true → shownPart sheet n ≡ noPart
+  unfolding shownPart
+  shown-past z = rw (is-past z)
 
   module _ (z : b ≡ false) {f : Form} (o : f ≡ formIn sheet) {h : Head} (k : h ≡ headIn f sheet) {d : Due} (v : d ≡ getD (dues f h) n noDue)
       {ls : List ℕ} (l : ls ≡ letters f) {w : ℕ} (u : w ≡ wrong ls (d .kind) n (d .used) (blockAt sheet n))
@@ -79,15 +81,34 @@ module _ (sheet : List ℕ) (n : ℕ) {b : Bool} (e : b ≡ pastEnd sheet n) whe
       found : w ≡ wrong (letters f) (d .kind) n (d .used) (blockAt sheet n)
       found = u ∙ rw l
 
-      -- nor of a block that is refused
-      pub shown-faulty : {p : List ℕ} → (w ≡ 0 → ⊥) → p ≡ [] → Promise sheet n p
-      unfolding sound shown
-      shown-faulty s p = record { part = p ∙ rw (is-there z, ← o, ← k, ← v, ← found, ne-eqb w 0 s) }
+      -- so it is of a block that is refused
+      pub shown-faulty : (w ≡ 0 → ⊥) → shownPart sheet n ≡ noPart
+      unfolding sound shownPart
+      shown-faulty s = rw (is-there z, ← o, ← k, ← v, ← found, ne-eqb w 0 s)
 
       -- any other block shows its used payload
-      pub shown-part : {p : List ℕ} → w ≡ 0 → p ≡ payloadOf (d .used) (blockAt sheet n) → Promise sheet n p
-      unfolding sound shown
-      shown-part s p = record { part = p ∙ rw (is-there z, ← o, ← k, ← v, ← found, eq-eqb w 0 s) }
+      pub shown-sound : w ≡ 0 → shownPart sheet n ≡ payloadPart n (d .used)
+      unfolding sound shownPart
+      shown-sound s = rw (is-there z, ← o, ← k, ← v, ← found, eq-eqb w 0 s)
+
+-- the part of a lent sheet that block n shows keeps the promise
+pub promised : {lent : RefT (List ℕ)} {n : ℕ} {e : Extent} {p : RefT (List ℕ)} → shownPart (now lent) n ≡ e → PartOf lent e p → Promise lent n p
+promised h o = record { part = rw h o }
+
+-- the bytes of a block that is there and sound are its used payload
+pub shown-payload : (sheet : List ℕ) (n : ℕ) → there sheet n ≡ true → sound sheet n ≡ true → shown sheet n ≡ payloadOf (dueAt sheet n .used) (blockAt sheet n)
+unfolding shownPart
+shown-payload sheet n t s = rw (t, s) (payload-bytes sheet n (dueAt sheet n .used) (small-at (duesIn sheet) n (small-form (formIn sheet) (headBy sheet))))
+
+-- any other block has none
+pub shown-none : (sheet : List ℕ) (n : ℕ) → there sheet n && sound sheet n ≡ false → shown sheet n ≡ []
+unfolding shownPart
+shown-none sheet n h = none (there sheet n) (sound sheet n) h
+  where
+    none : (t s : Bool) → t && s ≡ false → bytesIn (cond t (cond s (payloadPart n (dueAt sheet n .used)) noPart) noPart) sheet ≡ []
+    none false s e = refl
+    none true false e = refl
+    none true true e = absurd (true≢false e)
 
 -- a block that is due has its bytes, and its used part is no more than a payload
 pub block-room : {sheet : List ℕ} {f : Form} {h : Head} {n : ℕ} {d : Due} → DueThere sheet n → f ≡ formIn sheet → h ≡ headIn f sheet → d ≡ getD (dues f h) n noDue

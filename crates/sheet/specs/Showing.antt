@@ -1,16 +1,18 @@
 -- Document 01, "The sheet": the used payload of a block, as that part of the sheet. Which sheet it is goes by its letters.
 -- Assumes nothing.
 use Prim.Native.Nat.{ℕ, _+_}
-use mathlib.Core.Path.{_≡_, sym, _∙_}
+use mathlib.Core.Path.{_≡_}
 use mathlib.Core.Bool.{Bool, cond, not, _&&_}
-use mathlib.Core.List.{List, []}
+use mathlib.Core.List.{List}
 use lib.Dec.{eqb, ltb}
 use lib.ListN.{length, getD}
+use denote.Ref.{RefT, ptr, now}
 use Rattle.refusals.specs.Table.{refusal}
 use Rattle.blocks.specs.declared.Due.{Due}
-use Rattle.blocks.specs.Block.{payloadOf, wrong}
+use Rattle.blocks.specs.Block.{wrong}
 use Rattle.blocks.specs.Section.{noDue}
 use Rattle.blocks.specs.Sheet.{blockAt}
+use Rattle.blocks.specs.Shown.{Extent, bytesIn, noPart, payloadPart, PartOf, same-part}
 use Rattle.form.specs.Form.{letters, formIn, dues, headBy}
 use Rattle.form.specs.Refusals.{openTable}
 
@@ -38,14 +40,18 @@ nextPlace sheet n = cond (there sheet n) (n + 1) n
 unfoldable pub sound : List ℕ → ℕ → Bool
 sound sheet n = eqb (wrong (letters (formIn sheet)) (dueAt sheet n .kind) n (dueAt sheet n .used) (blockAt sheet n)) 0
 
--- the used payload of a block that is there and sound, and nothing of any other
-unfoldable pub shown : List ℕ → ℕ → List ℕ
-shown sheet n = cond (there sheet n) (cond (sound sheet n) (payloadOf (dueAt sheet n .used) (blockAt sheet n)) []) []
+-- which part of a sheet block n shows: its used payload where it is there and sound, and the empty part at the sheet's start where it is not
+unfoldable pub shownPart : List ℕ → ℕ → Extent
+shownPart sheet n = cond (there sheet n) (cond (sound sheet n) (payloadPart n (dueAt sheet n .used)) noPart) noPart
 
--- what showing a block promises: the part that it shows, and the sheet is only lent
-pub record Promise (sheet : List ℕ) (n : ℕ) (p : List ℕ) : Type 0 where
-  pub part : p ≡ shown sheet n
+-- the bytes of that part
+abbrev pub shown : List ℕ → ℕ → List ℕ
+shown sheet n = bytesIn (shownPart sheet n) sheet
 
--- for every sheet and place the promise leaves one part
-pub unique : {sheet : List ℕ} {n : ℕ} {p p′ : List ℕ} → Promise sheet n p → Promise sheet n p′ → p ≡ p′
-unique a b = a .part ∙ sym (b .part)
+-- what showing a block promises: that part of the lent sheet, where it lies, and the sheet is only lent
+pub record Promise (lent : RefT (List ℕ)) (n : ℕ) (p : RefT (List ℕ)) : Type 0 where
+  pub part : PartOf lent (shownPart (now lent) n) p
+
+-- for every lent sheet and place the promise leaves one part: where it lies, and its bytes
+pub unique : {lent : RefT (List ℕ)} {n : ℕ} {p p′ : RefT (List ℕ)} → Promise lent n p → Promise lent n p′ → (ptr p ≡ ptr p′) × (now p ≡ now p′)
+unique a b = same-part (a .part) (b .part)

@@ -1,6 +1,6 @@
 // The blocks of either sheet: whether there is one at a place, and its used payload, as that part of the sheet.
 ghost use mathlib.Core.Path.{_≡_};
-ghost use mathlib.Core.List.{[]};
+ghost use Rattle.blocks.specs.Shown.{noPart, PartOf};
 ghost use Rattle.sheet.specs.Showing.{pastEnd, nextPlace, Promise};
 use crate::opening::head_in;
 use crate::opening::open_refusal;
@@ -10,8 +10,9 @@ use form::Form;
 use form::sections::all_blocks;
 use form::sections::due_of;
 
+// The empty part at the sheet's start.
 fn empty_part(sheet: &[u8]) -> &[u8]
-    ensures { λ r. ⌜ now r ≡ [] ⌝ }
+    ensures { λ r. ⌜ PartOf (sheet .entry) noPart r ⌝ }
 {
     &sheet[0..0]
 }
@@ -40,7 +41,7 @@ pub fn after(sheet: &[u8], number: usize) -> usize
 
 // Shows the used payload of a block, from 0; of a block that is refused or not there, an empty part.
 pub fn block(sheet: &[u8], number: usize) -> &[u8]
-    ensures { λ r. ⌜ Promise (now (sheet .entry)) number (now r) ⌝ }
+    ensures { λ r. ⌜ Promise (sheet .entry) number r ⌝ }
 {
     if past_end(sheet, number) {
         return empty_part(sheet);

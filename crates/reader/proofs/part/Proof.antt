@@ -24,7 +24,7 @@ use sound.WpLaws.{FmC, fmOf, WpFn-mono}
 use denote.RattleType.{RattleType, owns}
 use denote.Laws.{Is, shows}
 use denote.Builtin.{u8, usize}
-use denote.Ref.{now, RefT}
+use denote.Ref.{RefT}
 use denote.Signature.{namedLft}
 use denote.Slice.{sliceVal, ShrSlice, shr-slice-lawful}
 use denote.Steps.{peeks, heard, nothing}
@@ -70,7 +70,7 @@ module _ {M : Type 1} (𝓤 : URA M) (H : Heap 𝓤) (A : Atoms 𝓤) (W : Given
 
   -- what is promised of a part
   abbrev Found : RefT (List ℕ) → Type 0
-  Found r = Promise (now (d .sheet)) (d .place) (now r)
+  Found r = Promise (d .sheet) (d .place) r
 
   -- the result's type
   abbrev S : RattleType

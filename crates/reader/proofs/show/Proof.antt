@@ -25,7 +25,7 @@ use denote.RattleType.{RattleType, owns}
 use denote.Laws.{Is, shows}
 use denote.Plain.{uint-makes, uint-vals, uint-tells}
 use denote.Builtin.{u8, usize}
-use denote.Ref.{RefT, NamedLft, now}
+use denote.Ref.{RefT, NamedLft}
 use denote.Signature.{plain, namedLft}
 use denote.Slice.{sliceVal, ShrSlice, slice-vals, shr-slice-tells, shr-slice-lawful, shr-slice-copy}
 use denote.Steps.{owned, peeks, heard, nothing}
@@ -136,12 +136,12 @@ module _ {M : Type 1} (𝓤 : URA M) (H : Heap 𝓤) (A : Atoms 𝓤) (W : Given
   goes-part r u = qed W (‵ (B (κ, tt) .own r (u ∷ [])) ∷ (‵ (flft κ q) ⊛ ‵ ftrue) ∷ []) ∵ nothing ! $ move ! (1 ∷ 0 ∷ []) $ fjoin ! $ move ! (1 ∷ 0 ∷ []) $ join ! $ frame ! $ done !
 
   abbrev Shown : Reader → RefT (List ℕ) → Type 0
-  Shown r p = Promise (now (r .sheet)) (r .place) (now p)
+  Shown r p = Promise (r .sheet) (r .place) p
 
   part-said : (r : Reader) (p : RefT (List ℕ)) → ent 𝓤 (ensured 𝓤 H A part.ended (part.clauses 𝓤 H A mem run) (κ, tt) (r, tt) tt p) (fact 𝓤 (Shown r p))
   part-said r p = exE 𝓤 _ (λ ws. snd∗ 𝓤 (sem 𝓤 H A (lasts part.ended (κ, tt) (r, tt) ws)) (fact 𝓤 (Shown r p)))
 
-  exits : (p : RefT (List ℕ)) (u : Val) → Promise (now s) n (now p) → ent 𝓤 (⋆ 𝓤 H A (‵ (S .own p (u ∷ [])) ∷ (‵ (flft κ q) ⊛ ‵ ftrue) ∷ ‵ Own ∷ [])) (Post u)
+  exits : (p : RefT (List ℕ)) (u : Val) → Promise s n p → ent 𝓤 (⋆ 𝓤 H A (‵ (S .own p (u ∷ [])) ∷ (‵ (flft κ q) ⊛ ‵ ftrue) ∷ ‵ Own ∷ [])) (Post u)
   exits p u e =
       qed W (‵ (S .own p (u ∷ [])) ∷ (‵ (flft κ q) ⊛ ‵ ftrue) ∷ ‵ Own ∷ []) ∵
       suffices ! _ (ends-at 𝓤 H A show.ended stayed (show.clauses 𝓤 H A mem run) W (((κ, tt), (q, tt), tt, (s, (n, tt)), at), tt) u p (tt, (tt, tt)) (tt, (tt, tt))) $ says ! e $

@@ -1,6 +1,9 @@
--- The part of the sheet that is shown is the used payload of its block.
+-- What is shown starts after the block's header, and has as many bytes as are used.
+use mathlib.Core.Path.{refl}
+use Prim.Native.Nat.{_+_, _*_}
 use borrow.Author.Needs.{needs}
-use Rattle.blocks.specs.SheetLaws.{payload-part}
+use Rattle.blocks.specs.Block.{blockLength, headerLength}
+use Rattle.blocks.specs.Shown.{part-bytes}
 use Rattle.blocks.proofs.reading.payload.Statement.{statement}
 use Rattle.blocks.proofs.reading.payload.Tie as tie
 
@@ -23,7 +26,7 @@ part-result-end : tie.Need-part-result-end
 part-result-end c = search needs
 
 returns : tie.Need-returns
-returns c = let s = c .before in payload-part (s .args .sheet .now) (s .args .number) (s .args .used) (s .pre .1)
+returns c = let a = c .before .args in record { lies = refl; bytes = part-bytes (blockLength * a .number + headerLength) (a .used) (a .sheet .now) }
 
 pub payload-spec : {M : Type 1} → statement M
 payload-spec =

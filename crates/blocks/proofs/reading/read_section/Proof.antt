@@ -1,6 +1,7 @@
 -- The records that are left, put down after those that are, make all of them; each turn puts down those of the next block.
 use native.Mathlib.Omega.{arith}
 use borrow.Author.Needs.{needs}
+use Rattle.blocks.specs.Shown.{part-payload}
 use Rattle.blocks.specs.Whole.{whole-small, whole-some}
 use Rattle.blocks.specs.SectionRead.{SectionRead, section-read-start, section-read-block, section-read-room, section-read-long, section-read-turn, section-read-after, section-read-end}
 use Rattle.blocks.proofs.reading.read_section.Statement.{statement}
@@ -29,7 +30,7 @@ read-records-requires c κs =
     let r = c .before .before .before .before .loop .inv in
     let h = c .before .before .before .loop-test .taken in
     let e = c .before .before .least .ensures in
-    ((r .whole .widths, r .whole .sum), (section-read-long r h e (c .before .payload .ensures), section-read-room r h e))
+    ((r .whole .widths, r .whole .sum), (section-read-long r h e (part-payload _ (whole-small (r .whole) e) (c .before .payload .ensures)), section-read-room r h e))
 
 sub-left : tie.Need-sub-left Inv-loop μ-loop
 sub-left c = omega (arith, c .before .before .before .before .before .least .ensures)
@@ -47,7 +48,10 @@ loop-less : tie.Need-loop-less Inv-loop μ-loop
 loop-less c = omega (arith, c .before .before .before .before .before .least .ensures, whole-some (c .before .before .before .before .before .before .before .loop .inv .whole) (c .before .before .before .before .before .least .ensures) (c .before .before .before .before .before .before .loop-test .taken))
 
 loop-again : tie.Need-loop-again Inv-loop μ-loop
-loop-again c = section-read-turn (c .before .before .before .before .before .before .before .loop .inv) (c .before .before .before .before .before .before .loop-test .taken) (c .before .before .before .before .before .least .ensures) (c .before .before .before .before .payload .ensures) (c .before .before .read-records .ensures)
+loop-again c =
+    let r = c .before .before .before .before .before .before .before .loop .inv in
+    let e = c .before .before .before .before .before .least .ensures in
+    section-read-turn r (c .before .before .before .before .before .before .loop-test .taken) e (part-payload _ (whole-small (r .whole) e) (c .before .before .before .before .payload .ensures)) (c .before .before .read-records .ensures)
 
 same-length : tie.Need-same-length Inv-loop μ-loop
 same-length c = c .before .loop .inv .putting .size

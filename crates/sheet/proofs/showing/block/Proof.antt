@@ -4,7 +4,7 @@ use borrow.Author.Needs.{needs}
 use lib.ListN.{length}
 use Rattle.form.specs.FormLaws.{four-letters}
 use Rattle.form.specs.Accepted.{opened-blocks}
-use Rattle.sheet.specs.ShowLaws.{DueThere, due-there, shown-past, shown-faulty, shown-part, block-room, opened-head, opened-as}
+use Rattle.sheet.specs.ShowLaws.{DueThere, due-there, shown-past, shown-faulty, shown-sound, promised, block-room, opened-head, opened-as}
 use Rattle.sheet.proofs.showing.block.Statement.{statement}
 use Rattle.sheet.proofs.showing.block.Tie as tie
 
@@ -19,7 +19,7 @@ empty-part-requires : tie.Need-empty-part-requires
 empty-part-requires c κs = search needs
 
 returns : tie.Need-returns
-returns c = shown-past _ _ (c .before .before .past-end .ensures) (c .before .if1 .taken) (c .empty-part .ensures)
+returns c = promised (shown-past _ _ (c .before .before .past-end .ensures) (c .before .if1 .taken)) (c .empty-part .ensures)
 
 of-requires : tie.Need-of-requires
 of-requires c κs = search needs
@@ -43,13 +43,13 @@ empty-part-requires-2 : tie.Need-empty-part-requires-2
 empty-part-requires-2 c κs = search needs
 
 returns-2 : tie.Need-returns-2
-returns-2 c = shown-faulty _ _ (c .before .before .before .before .before .before .before .before .before .past-end .ensures) (c .before .before .before .before .before .before .before .before .if1 .left) (c .before .before .before .before .before .before .before .of .ensures) (c .before .before .before .before .before .before .head-in .ensures) (c .before .before .before .before .before .due-of .ensures) (c .before .before .before .before .letters .ensures) (c .before .before .block-fault .ensures) (c .before .if2 .taken) (c .empty-part2 .ensures)
+returns-2 c = promised (shown-faulty _ _ (c .before .before .before .before .before .before .before .before .before .past-end .ensures) (c .before .before .before .before .before .before .before .before .if1 .left) (c .before .before .before .before .before .before .before .of .ensures) (c .before .before .before .before .before .before .head-in .ensures) (c .before .before .before .before .before .due-of .ensures) (c .before .before .before .before .letters .ensures) (c .before .before .block-fault .ensures) (c .before .if2 .taken)) (c .empty-part2 .ensures)
 
 payload-requires : tie.Need-payload-requires
 payload-requires c κs = block-room (dueHere (c .before .before .before .before .before .before .before)) (c .before .before .before .before .before .before .of .ensures) (c .before .before .before .before .before .head-in .ensures) (c .before .before .before .before .due-of .ensures)
 
 returns-3 : tie.Need-returns-3
-returns-3 c = shown-part _ _ (c .before .before .before .before .before .before .before .before .before .past-end .ensures) (c .before .before .before .before .before .before .before .before .if1 .left) (c .before .before .before .before .before .before .before .of .ensures) (c .before .before .before .before .before .before .head-in .ensures) (c .before .before .before .before .before .due-of .ensures) (c .before .before .before .before .letters .ensures) (c .before .before .block-fault .ensures) (c .before .if2 .left) (c .payload .ensures)
+returns-3 c = promised (shown-sound _ _ (c .before .before .before .before .before .before .before .before .before .past-end .ensures) (c .before .before .before .before .before .before .before .before .if1 .left) (c .before .before .before .before .before .before .before .of .ensures) (c .before .before .before .before .before .before .head-in .ensures) (c .before .before .before .before .before .due-of .ensures) (c .before .before .before .before .letters .ensures) (c .before .before .block-fault .ensures) (c .before .if2 .left)) (c .payload .ensures)
 
 pub block-spec : {M : Type 1} → statement M
 block-spec =
