@@ -3,10 +3,7 @@
 use Prim.Native.Nat.{ℕ}
 use mathlib.Core.Path.{_≡_, sym, _∙_}
 use mathlib.Core.List.{List}
-use denote.Ref.{RefT, now}
-use Rattle.refusals.specs.declared.Refusal.{Refusal}
-use Rattle.form.specs.Form.{formIn}
-use Rattle.holding.specs.Held.{Holds}
+use denote.Ref.{RefT}
 use Rattle.sheet.specs.Showing as Showing
 use Rattle.reader.specs.declared.Reader.{Reader}
 
@@ -41,7 +38,3 @@ module _ {lent : RefT (List ℕ)} {n : ℕ} {r : Reader} (k : Keeps lent n r) wh
   -- what its block shows is what that block of the sheet shows
   pub keeps-shown : {p : RefT (List ℕ)} → Showing.Promise (r .sheet) (r .place) p → Showing.Promise lent n p
   keeps-shown h = rw (k .sheet, k .place) at h
-
-  -- what is held through it is what is held of the sheet
-  pub keeps-held : {f : Refusal} {held : List ℕ} → Holds (formIn (now (r .sheet))) (now (r .sheet)) f held → Holds (formIn (now lent)) (now lent) f held
-  keeps-held h = rw (k .sheet) at h

@@ -1,13 +1,8 @@
 // Reading goes through a reader, which keeps the lent sheet and its place in it. The borrow checker covers no function over a struct that holds a
 // slice, so each is proved by hand and leaves the work to one that takes the slice and the number.
 ghost use mathlib.Core.Path.{_≡_};
-ghost use Prim.Native.Nat.{_≤_};
-ghost use lib.ListN.{length};
 ghost use Rattle.sheet.specs.Showing.{pastEnd, nextPlace, Promise as Shows};
-ghost use Rattle.form.specs.Form.{formIn};
-ghost use Rattle.holding.specs.Held.{mostHeld, Holds};
 ghost use Rattle.reader.specs.Kept.{Keeps};
-use refusals::Refusal;
 use sheet::showing;
 
 // A lent sheet, and the number of a block of it, from 0.
@@ -65,25 +60,9 @@ pub fn part<'a>(reader: Reader<'a>) -> &'a [u8]
     showing::block(reader.sheet, reader.place)
 }
 
-// Holds all numbers of the sheet, wherever the reader stands, or answers what it is refused for.
-pub fn read_all<'a>(reader: Reader<'a>, held: &mut [u64]) -> Refusal
-    requires { ⌜ mostHeld ≤ length (now held) ⌝ }
-    ensures { λ r. ⌜ Holds (formIn (now (reader .entry .sheet))) (now (reader .entry .sheet)) r (now (held .exit)) ⌝ }
-{
-    holding::hold_either(reader.sheet, held)
-}
-
 // Shows the used payload of a block, through a reader; with plain parameters, so that a caller needs no proof by hand.
 pub fn show(sheet: &[u8], number: usize) -> &[u8]
     ensures { λ p. ⌜ Shows (sheet .entry) number p ⌝ }
 {
     part(moved(opened(sheet), number))
-}
-
-// Holds all numbers of a sheet, through a reader, or answers what it is refused for; with plain parameters likewise.
-pub fn read(sheet: &[u8], held: &mut [u64]) -> Refusal
-    requires { ⌜ mostHeld ≤ length (now held) ⌝ }
-    ensures { λ r. ⌜ Holds (formIn (now (sheet .entry))) (now (sheet .entry)) r (now (held .exit)) ⌝ }
-{
-    read_all(opened(sheet), held)
 }

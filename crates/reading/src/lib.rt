@@ -127,7 +127,7 @@ pub fn read_sheet(
     ensures { λ r. ⌜ Promise (input (now (sheet .entry)) (now (workloads .entry)) (now (outside .entry)) (now (edges .entry)) (now (counts .entry)) (now (visits .entry)) (now (constraints .entry)) (now (colouring .entry))) (left r (now (workloads .exit)) (now (outside .exit)) (now (edges .exit)) (now (counts .exit)) (now (visits .exit)) (now (constraints .exit)) (now (colouring .exit))) ⌝ }
 {
     let mut held = [0u64; MOST_HELD];
-    let refusal = reader::read(sheet, &mut held);
+    let refusal = gathering::read(sheet, &mut held);
     if refusal.code != 0 {
         return refused(refusal);
     }

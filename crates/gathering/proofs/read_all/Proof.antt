@@ -50,13 +50,13 @@ use Rattle.holding.proofs.hold_either as next
 use Rattle.holding.proofs.hold_either.Symbol as next-def
 use Rattle.holding.proofs.hold_either.Symbol.{name as #holding·hold-either}
 use Rattle.holding.proofs.hold_either.Met as next-thm
 use Rattle.reader.specs.declared.Reader.{Reader}
 use Rattle.reader.proofs.Reader as T
 use Rattle.reader.proofs.Reader.Laws as T′
-use Rattle.reader.proofs.read_all.Key.{name as #reader·read-all}
-use Rattle.reader.proofs.read_all as self
-use Rattle.reader.proofs.read_all.Statement as stated
-use Rattle.reader.proofs.read_all.Code as code
+use Rattle.gathering.proofs.read_all.Key.{name as #gathering·read-all}
+use Rattle.gathering.proofs.read_all as self
+use Rattle.gathering.proofs.read_all.Statement as stated
+use Rattle.gathering.proofs.read_all.Code as code
 
 -- the struct's type, over the signature's lifetimes
 abbrev B : Lfts 2 → RattleType
@@ -184,6 +184,6 @@ pub read-all-spec : {M : Type 1} → stated.statement M
 unfolding code.routine tablesOf
 read-all-spec 𝓤 H 𝓜 𝓖 𝓡 =
     entered 𝓤 H (tripleOf 𝓤 H (𝓖 .A) self.signature (self.spec 𝓤 H (𝓖 .A) (𝓜 .mem) (𝓡 .run)))
-    (tables 𝓤 H 𝓜 𝓡 code.env .C) (tables 𝓤 H 𝓜 𝓡 code.env .Λ) #reader·read-all code.function (code.unfolded 𝓤 H 𝓜 𝓡)
+    (tables 𝓤 H 𝓜 𝓡 code.env .C) (tables 𝓤 H 𝓜 𝓡 code.env .Λ) #gathering·read-all code.function (code.unfolded 𝓤 H 𝓜 𝓡)
     (self-meets 𝓤 H (𝓖 .A) (givenOf 𝓤 H 𝓜 𝓖) (𝓜 .mem) (𝓡 .run) (tablesOf 𝓤 H 𝓜 (tables 𝓤 H 𝓜 𝓡 code.env))
     (cited 𝓤 H (Next 𝓤 H (𝓖 .A) (𝓜 .mem) (𝓡 .run)) 𝓜 𝓡 code.env #holding·hold-either next-def.routine code.calls-holding·hold-either (next-thm.met 𝓤 H 𝓜 𝓖 𝓡)))

@@ -43,22 +43,23 @@ use Rattle.refusals.proofs.Refusal as Res
 use Rattle.refusals.proofs.Refusal.Laws as Res′
 use Rattle.form.specs.Form.{formIn}
 use Rattle.holding.specs.Held.{mostHeld, Holds}
 use Rattle.reader.specs.declared.Reader.{Reader}
-use Rattle.reader.specs.Kept.{Keeps, keeps-held}
+use Rattle.reader.specs.Kept.{Keeps}
+use Rattle.gathering.specs.Through.{keeps-held}
 use Rattle.reader.proofs.Reader as T
 use Rattle.reader.proofs.Reader.Laws as T′
 use Rattle.reader.proofs.opened as opened
 use Rattle.reader.proofs.opened.Symbol as opened-def
 use Rattle.reader.proofs.opened.Symbol.{name as #reader·opened}
 use Rattle.reader.proofs.opened.Met as opened-thm
-use Rattle.reader.proofs.read_all as next
-use Rattle.reader.proofs.read_all.Symbol as next-def
-use Rattle.reader.proofs.read_all.Symbol.{name as #reader·read-all}
-use Rattle.reader.proofs.read_all.Met as next-thm
-use Rattle.reader.proofs.read.Key.{name as #reader·read}
-use Rattle.reader.proofs.read as self
-use Rattle.reader.proofs.read.Statement as stated
-use Rattle.reader.proofs.read.Code as code
+use Rattle.gathering.proofs.read_all as next
+use Rattle.gathering.proofs.read_all.Symbol as next-def
+use Rattle.gathering.proofs.read_all.Symbol.{name as #gathering·read-all}
+use Rattle.gathering.proofs.read_all.Met as next-thm
+use Rattle.gathering.proofs.read.Key.{name as #gathering·read}
+use Rattle.gathering.proofs.read as self
+use Rattle.gathering.proofs.read.Statement as stated
+use Rattle.gathering.proofs.read.Code as code
 
 -- the struct's type, over the signature's lifetimes
 abbrev B : Lfts 2 → RattleType
@@ -127,7 +128,7 @@ module _ {M : Type 1} (𝓤 : URA M) (H : Heap 𝓤) (A : Atoms 𝓤) (W : Given
       suffices ! _ (ends-at 𝓤 H A self.ended stayed (self.clauses 𝓤 H A mem run) W ((κs, (q-sheet, (q-held, tt)), tt, a, at), tt) u r (tt, (held-last, tt)) (tt, (l-held, tt))) $ says ! e $
       nothing ! $ move ! (2 ∷ 0 ∷ []) $ join ! $ move ! (1 ∷ 0 ∷ []) $ join ! $ frame ! $ nothing ! $ move ! (2 ∷ 0 ∷ []) $ fjoin ! $ move ! (1 ∷ 0 ∷ []) $ fjoin ! $ frame ! $ done !
 
-  module _ (C : Calls 𝓤 H) (Λ : Loops 𝓤 H) (fm : FmC 𝓤 H (W .laws) C) (known-opened : Triple 𝓤 (C #reader·opened) (Opened 𝓤 H A mem run)) (known-next : Triple 𝓤 (C #reader·read-all) (Next 𝓤 H A mem run)) where
+  module _ (C : Calls 𝓤 H) (Λ : Loops 𝓤 H) (fm : FmC 𝓤 H (W .laws) C) (known-opened : Triple 𝓤 (C #reader·opened) (Opened 𝓤 H A mem run)) (known-next : Triple 𝓤 (C #gathering·read-all) (Next 𝓤 H A mem run)) where
     walk : Is (ShrSlice (named 0) κ-sheet u8) sheet (slice sheet ∷ []) → mostHeld ≤ length (now held) → ent 𝓤 (onEntry 𝓤 H A self.signature κs (q-sheet, (q-held, tt)) a at) (WpFn 𝓤 H C Λ code.function (slice sheet ∷ slice held ∷ []) Post)
     walk g within =
         qed W ((‵ (flft κ-sheet q-sheet) ⊛ (‵ (flft κ-held q-held) ⊛ ‵ ftrue)) ∷ ‵ (owns (ShrSlice (named 0) κ-sheet u8 ∷ MutSlice (named 1) κ-held u64 ∷ []) a at) ∷ []) ∵ enter ! C Λ code.function (slice sheet ∷ slice held ∷ []) _ $
@@ -160,14 +161,14 @@ module _ {M : Type 1} (𝓤 : URA M) (H : Heap 𝓤) (A : Atoms 𝓤) (W : Given
         move ! (5 ∷ 6 ∷ []) $ free1 ! $ free0 ! $ keep ! (2 ∷ 1 ∷ 4 ∷ 3 ∷ 0 ∷ []) $ by ! (exits r u (zs .1 .0) (keeps-held e p) l-held)))))))))))))))))
 
 module _ {M : Type 1} (𝓤 : URA M) (H : Heap 𝓤) (A : Atoms 𝓤) (W : Given 𝓤 H A) (mem : Memory → SProp 𝓤) (run : Routine → Fun 𝓤) where
-  self-walks : (C : Calls 𝓤 H) (Λ : Loops 𝓤 H) → FmC 𝓤 H (W .laws) C → Triple 𝓤 (C #reader·opened) (Opened 𝓤 H A mem run) → Triple 𝓤 (C #reader·read-all) (Next 𝓤 H A mem run)
+  self-walks : (C : Calls 𝓤 H) (Λ : Loops 𝓤 H) → FmC 𝓤 H (W .laws) C → Triple 𝓤 (C #reader·opened) (Opened 𝓤 H A mem run) → Triple 𝓤 (C #gathering·read-all) (Next 𝓤 H A mem run)
       → Walks 𝓤 H A self.ended stayed (WpFn 𝓤 H C Λ code.function) (self.clauses 𝓤 H A mem run)
   self-walks C Λ fm known-opened known-next = walked 𝓤 H A self.ended stayed (self.clauses 𝓤 H A mem run) (WpFn 𝓤 H C Λ code.function) (λ κs. (slice-vals, (slice-vals, tt)))
       (λ κs. (shr-slice-tells (named 0) (κs .0) u8, (mut-slice-tells (named 1) (κs .1 .0) u64, tt)))
       (λ κs qs bounds a g are. needs 𝓤 (mostHeld ≤ length (now (a .1 .0))) _ (walk 𝓤 H A W mem run (κs .0) (qs .0) (a .0) (κs .1 .0) (qs .1 .0) (a .1 .0) (are .1 .0 .0 .1) C Λ fm known-opened known-next (are .0)))
 
 self-meets : {M : Type 1} (𝓤 : URA M) (H : Heap 𝓤) (A : Atoms 𝓤) (W : Given 𝓤 H A) (mem : Memory → SProp 𝓤) (run : Routine → Fun 𝓤) (𝓣 : Tables 𝓤 H)
-    → Triple 𝓤 (𝓣 .C #reader·opened) (Opened 𝓤 H A mem run) → Triple 𝓤 (𝓣 .C #reader·read-all) (Next 𝓤 H A mem run)
+    → Triple 𝓤 (𝓣 .C #reader·opened) (Opened 𝓤 H A mem run) → Triple 𝓤 (𝓣 .C #gathering·read-all) (Next 𝓤 H A mem run)
     → Meets 𝓤 H A self.signature (WpFn 𝓤 H (𝓣 .C) (𝓣 .Λ) code.function) (self.spec 𝓤 H A mem run)
 self-meets 𝓤 H A W mem run 𝓣 known-opened known-next =
     walk-meets 𝓤 H A self.ended stayed W
@@ -178,7 +179,7 @@ pub read-spec : {M : Type 1} → stated.statement M
 unfolding code.routine tablesOf
 read-spec 𝓤 H 𝓜 𝓖 𝓡 =
     entered 𝓤 H (tripleOf 𝓤 H (𝓖 .A) self.signature (self.spec 𝓤 H (𝓖 .A) (𝓜 .mem) (𝓡 .run)))
-    (tables 𝓤 H 𝓜 𝓡 code.env .C) (tables 𝓤 H 𝓜 𝓡 code.env .Λ) #reader·read code.function (code.unfolded 𝓤 H 𝓜 𝓡)
+    (tables 𝓤 H 𝓜 𝓡 code.env .C) (tables 𝓤 H 𝓜 𝓡 code.env .Λ) #gathering·read code.function (code.unfolded 𝓤 H 𝓜 𝓡)
     (self-meets 𝓤 H (𝓖 .A) (givenOf 𝓤 H 𝓜 𝓖) (𝓜 .mem) (𝓡 .run) (tablesOf 𝓤 H 𝓜 (tables 𝓤 H 𝓜 𝓡 code.env))
     (cited 𝓤 H (Opened 𝓤 H (𝓖 .A) (𝓜 .mem) (𝓡 .run)) 𝓜 𝓡 code.env #reader·opened opened-def.routine code.calls-reader·opened (opened-thm.met 𝓤 H 𝓜 𝓖 𝓡))
-    (cited 𝓤 H (Next 𝓤 H (𝓖 .A) (𝓜 .mem) (𝓡 .run)) 𝓜 𝓡 code.env #reader·read-all next-def.routine code.calls-reader·read-all (next-thm.met 𝓤 H 𝓜 𝓖 𝓡)))
+    (cited 𝓤 H (Next 𝓤 H (𝓖 .A) (𝓜 .mem) (𝓡 .run)) 𝓜 𝓡 code.env #gathering·read-all next-def.routine code.calls-gathering·read-all (next-thm.met 𝓤 H 𝓜 𝓖 𝓡)))
