@@ -1,18 +1,11 @@
 //! Faces to the outside, worked out by hand: T and the border of a region, what a move changes of them, every case of code 14, and
 //! the largest border. The reference and the library, by numbers and by records, are asked for the same.
 
-mod calls;
-mod canary;
-mod cases;
-mod library;
-mod plans;
-mod reference;
-mod sheets;
-
-use calls::{asked, deltas, parts, rows, violation};
-use plans::{sheet_a, sheet_a_with_both, sheet_a_with_flights, sheet_a_with_outside, Numbers};
-use reference::{AREA, EDGES, FIRST, LIMIT, REGIONS, SECOND, WEIGHT};
-use sheets::files;
+use crate::calls::{asked, deltas, parts, rows, violation};
+use crate::library;
+use crate::plans::{sheet_a, sheet_a_with_both, sheet_a_with_flights, sheet_a_with_outside, Numbers};
+use crate::reference::{AREA, EDGES, FIRST, LIMIT, REGIONS, SECOND, WEIGHT};
+use crate::sheets::{self, files};
 
 /// What sheet A's faces to the outside come to: 7, 0, 1, 0 and 3.
 const WHOLE: u64 = 11;

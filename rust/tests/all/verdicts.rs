@@ -1,16 +1,9 @@
 //! The program `verdicts` run on sheets of either form, and what it prints compared with the reference's text.
 
-mod canary;
-mod cases;
-mod library;
-mod plans;
-mod reference;
-mod sheets;
-
-use cases::{all_cases, random_cases, Case, Code};
-use plans::sheet_a;
-use reference::*;
-use sheets::{files, reading, Change, Sheet};
+use crate::cases::{all_cases, random_cases, Case, Code};
+use crate::plans::sheet_a;
+use crate::reference::*;
+use crate::sheets::{self, files, reading, Change, Sheet};
 use std::collections::BTreeSet;
 use std::io::Write;
 use std::path::Path;
@@ -72,7 +65,7 @@ fn sheet_a_in_five_lines() {
 /// The border is 13, 8 above its limit; a stretch of 45 seconds is 15 below its own.
 #[test]
 fn outside_areas_and_a_flight_in_six_lines() {
-    let file = include_bytes!("../../sheets/flights.sheet");
+    let file = include_bytes!("../../../sheets/flights.sheet");
     let lines = "1 1 1 0\n2 2 0 8\n3 3 1 0\n4 4 0 5\n5 5 0 15\ntotal 53\n";
     assert_eq!(Verdicts::of(file).text(), lines);
     assert_eq!(printed(file), lines);

@@ -1,18 +1,12 @@
 //! `qirfadhun::read` and the questions to a `qirfadhun::Sheet` compared with the reference, for sheets of either form: all that is
 //! answered, and all memory in and around what is lent. Sheets whose bytes are damaged are in `damage`.
 
-mod canary;
-mod cases;
-mod library;
-mod plans;
-mod reference;
-mod sheets;
-
-use cases::{all_cases, random_cases, shrink, Case, Code};
-use plans::{damaged, plan, sheet_a, Damage, Numbers, Random};
-use reference::*;
-use sheets::reading::{by_reference, compare, Answer, Memory};
-use sheets::{all_sheets, files, random_sheets, sheet_damages, sheets_at_block_ends, Asked, Reading, Sheet};
+use crate::cases::{all_cases, random_cases, shrink, Case, Code};
+use crate::library;
+use crate::plans::{damaged, plan, sheet_a, Damage, Numbers, Random};
+use crate::reference::*;
+use crate::sheets::reading::{by_reference, compare, Answer, Memory};
+use crate::sheets::{all_sheets, files, random_sheets, sheet_damages, sheets_at_block_ends, Asked, Reading, Sheet};
 
 #[test]
 fn random_good_sheets() {

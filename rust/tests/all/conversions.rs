@@ -1,24 +1,17 @@
 //! `qirfadhun::to_second` and `qirfadhun::to_first` compared with the reference: code, place, bytes written, and all memory in and
 //! around what is lent; and what is the same of a sheet and its conversion. Sheets whose bytes are damaged are in `damage`.
 
-mod calls;
-mod canary;
-mod cases;
-mod library;
-mod plans;
-mod reference;
-mod sheets;
-
-use calls::Call;
-use cases::{all_cases, random_cases, shrink, Case, Code, Memory as _};
-use plans::{
+use crate::calls::{self, Call};
+use crate::cases::{all_cases, random_cases, shrink, Case, Code, Memory as _};
+use crate::library;
+use crate::plans::{
     damaged, largest_plan, largest_whole_plan, moves, plan, sheet_a, sheet_a_with_both, sheet_a_with_flights,
     sheet_a_with_outside, whole_plan, without, Damage, Numbers, Random,
 };
-use reference::*;
-use sheets::converting::{by_archive, by_library, by_reference, compare, converted, Memory};
-use sheets::writing::Answer;
-use sheets::{files, numbers_in, reading, same_bytes, sheet_damages, sheets_at_block_ends, Change, Converting, Sheet};
+use crate::reference::*;
+use crate::sheets::converting::{by_archive, by_library, by_reference, compare, converted, Memory};
+use crate::sheets::writing::Answer;
+use crate::sheets::{files, numbers_in, reading, same_bytes, sheet_damages, sheets_at_block_ends, Change, Converting, Sheet};
 
 #[test]
 fn random_conversions() {
@@ -52,7 +45,7 @@ fn answered(form: &'static Form, plan: Numbers, room: u64) -> Answer {
 /// Sheet A has five blocks in the first form. In the second it has one more for the outside areas.
 #[test]
 fn sheet_a_there_and_back() {
-    let file = include_bytes!("../../sheets/a.sheet");
+    let file = include_bytes!("../../../sheets/a.sheet");
     let second = Sheet::of(&SECOND, sheet_a()).bytes();
     assert_eq!((answered(&FIRST, sheet_a(), 6 * 512), answered(&FIRST, sheet_a(), 7 * 512)), ([0, 0, 3_072], [0, 0, 3_072]));
     assert_eq!((answered(&SECOND, sheet_a(), 5 * 512), answered(&SECOND, sheet_a(), 6 * 512)), ([0, 0, 2_560], [0, 0, 2_560]));

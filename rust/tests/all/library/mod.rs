@@ -1,8 +1,6 @@
 //! What is under test: the safe functions, and the archive's own, of whose answers the safe ones pass on only a part.
 
-#![allow(dead_code, unused_imports)] // each test file takes its own part
-
 pub use qirfadhun::{call, call_records, read, to_first, to_second, write, write_records, write_second, Constraint, Sheet};
 
-#[path = "../../src/raw.rs"]
+#[path = "../../../src/raw.rs"]
 pub mod raw;

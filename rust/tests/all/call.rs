@@ -1,19 +1,13 @@
 //! `qirfadhun::call` compared with the reference: code, place, totals, and all memory in and around what is lent.
 
-mod calls;
-mod canary;
-mod cases;
-mod library;
-mod plans;
-mod reference;
-
-use calls::{by_reference, compare, Answer, Call, Memory};
-use cases::{all_cases, random_cases, shrink, Case, Code};
-use plans::{
+use crate::calls::{by_reference, compare, Answer, Call, Memory};
+use crate::cases::{all_cases, random_cases, shrink, Case, Code};
+use crate::library;
+use crate::plans::{
     break_list, damaged, flights_along, judged_damages, largest_whole_plan, moves, plan_of, sheet_a_with_both,
     sheet_a_with_flights, Damage, Numbers, Random,
 };
-use reference::*;
+use crate::reference::*;
 
 #[test]
 fn random_calls() {

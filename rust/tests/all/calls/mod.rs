@@ -1,7 +1,5 @@
 //! A call as it is handed over, those that answer it, and the comparison of what they answer and leave.
 
-#![allow(dead_code)] // each test file takes its own part
-
 use crate::canary::Lent;
 use crate::cases::{self, compare_all, Case, Code, Memory as _};
 use crate::library::{raw, Constraint};

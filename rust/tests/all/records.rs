@@ -1,17 +1,10 @@
 //! Constraints as records: `call_records` and `write_records` give what the reference gives for the same list in four numbers each.
 
-mod calls;
-mod canary;
-mod cases;
-mod library;
-mod plans;
-mod reference;
-mod sheets;
-
-use calls::Call;
-use cases::{all_cases, random_cases, Case, Code};
-use plans::{damaged, judged_damages, plan, sheet_a, sheet_a_with_flights, stored_damages, Damage, Numbers, PlanDamage};
-use sheets::{writing, Writing};
+use crate::calls::{self, Call};
+use crate::cases::{all_cases, random_cases, Case, Code};
+use crate::library;
+use crate::plans::{damaged, judged_damages, plan, sheet_a, sheet_a_with_flights, stored_damages, Damage, Numbers, PlanDamage};
+use crate::sheets::{writing, Writing};
 
 /// A plan of which only whole constraints are left, and what is done with it.
 #[derive(Clone, Debug)]

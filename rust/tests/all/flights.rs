@@ -1,19 +1,12 @@
 //! Flights, worked out by hand: stretches and their dwell, a region's part, every case of code 13, and the largest totals. The
 //! reference and the library, by numbers and by records, are asked for the same.
 
-mod calls;
-mod canary;
-mod cases;
-mod library;
-mod plans;
-mod reference;
-mod sheets;
-
-use calls::{asked, deltas, parts, rows, violation};
-use cases::Memory as _;
-use plans::{sheet_a, sheet_a_with_flights, Numbers};
-use reference::{FIRST, LIMIT, WEIGHT};
-use sheets::{reading, writing, Reading, Sheet, Writing};
+use crate::calls::{asked, deltas, parts, rows, violation};
+use crate::cases::Memory as _;
+use crate::library;
+use crate::plans::{sheet_a, sheet_a_with_flights, Numbers};
+use crate::reference::{FIRST, LIMIT, WEIGHT};
+use crate::sheets::{reading, writing, Reading, Sheet, Writing};
 
 /// A plan of regions that have no face and weigh nothing, with these flights and one constraint on them, of weight 1.
 fn flown(colouring: &[u64], flights: &[&[[u64; 2]]], relation: u64, limit: u64) -> Numbers {

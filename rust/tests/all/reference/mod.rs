@@ -1,8 +1,6 @@
 //! An independent implementation of documents 01 and 02, written from them alone and sharing nothing with the library.
 //! It is simple rather than fast: whatever is asked is worked out from scratch.
 
-#![allow(dead_code, unused_imports)] // each test file takes its own part
-
 mod blocks;
 mod call;
 mod converting;
@@ -14,10 +12,9 @@ mod sheet;
 mod verdicts;
 
 pub use blocks::fletcher;
-pub use call::{call, Totals};
+pub use call::call;
 pub use converting::{to_first, to_second};
 pub use form::{Form, FIRST, FORMS, SECOND};
 pub use limits::*;
-pub use plan::{Plan, Refusal};
 pub use sheet::{lay_out, read, write, write_second};
 pub use verdicts::Verdicts;

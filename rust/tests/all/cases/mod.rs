@@ -4,8 +4,6 @@
 //! `QIRFADHUN_CASES` how many each of them runs. Each case has a seed of its own, one more than the case before it; a failure names
 //! it, and `QIRFADHUN_CASES=1` with that seed runs it alone.
 
-#![allow(dead_code)] // each test file takes its own part
-
 use crate::plans::Random;
 use std::collections::BTreeMap;
 use std::fmt::Debug;

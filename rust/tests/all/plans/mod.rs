@@ -1,8 +1,6 @@
 //! Random plans within the documents' limits and moves on them; faces to the outside are in `outside`, flights in `flights`, numbers
 //! beyond the limits in `wild`.
 
-#![allow(dead_code, unused_imports)] // each test file takes its own part
-
 mod flights;
 mod outside;
 mod random;

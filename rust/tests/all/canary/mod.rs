@@ -1,7 +1,5 @@
 //! Lent memory under guard: the slice that is lent is the middle of a larger buffer, and the whole buffer is compared.
 
-#![allow(dead_code)] // each test file takes its own part
-
 use crate::library::Constraint;
 use std::fmt::Debug;
 

@@ -1,18 +1,11 @@
 //! Sheet A and its numbers: every line of document 01, asked of the reference and of the library, and its bytes in both forms. The
 //! text of `verdicts` is in `verdicts`.
 
-mod calls;
-mod canary;
-mod cases;
-mod library;
-mod plans;
-mod reference;
-mod sheets;
-
-use calls::asked;
-use plans::{sheet_a, sheet_a_with_both, Numbers};
-use reference::{fletcher, Form, FIRST, SECOND};
-use sheets::{numbers_in, reading, writing, Sheet, Writing};
+use crate::calls::{self, asked};
+use crate::library;
+use crate::plans::{sheet_a, sheet_a_with_both, Numbers};
+use crate::reference::{fletcher, Form, FIRST, SECOND};
+use crate::sheets::{numbers_in, reading, writing, Sheet, Writing};
 
 /// The rows of these moves on sheet A.
 fn rows(moves: &[u64]) -> Vec<i64> {
@@ -109,7 +102,7 @@ fn stored(form: &'static Form, plan: Numbers, file: &[u8]) {
 
 #[test]
 fn the_sheet_itself() {
-    let file = include_bytes!("../../sheets/a.sheet");
+    let file = include_bytes!("../../../sheets/a.sheet");
     stored(&FIRST, sheet_a(), file);
     assert_eq!((file.len(), library::Sheet::new(file).map(|sheet| sheet.total())), (2_560, Ok(15)));
 }
@@ -118,7 +111,7 @@ fn the_sheet_itself() {
 /// blocks of the kinds 1, 2, 6, 3, 4, 5, 7 and 8.
 #[test]
 fn the_second_sheet() {
-    let file = include_bytes!("../../sheets/flights.sheet");
+    let file = include_bytes!("../../../sheets/flights.sheet");
     let flight = vec![4, 20, 5, 10, 4, 15, 3, 80];
     stored(&SECOND, Numbers { counts: vec![4], visits: flight, ..sheet_a_with_both() }, file);
     assert_eq!((file.len(), library::Sheet::new(file).map(|sheet| sheet.total())), (4_096, Ok(15 + 8 + 30)));

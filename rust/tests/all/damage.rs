@@ -1,16 +1,9 @@
 //! Damaged sheets of either form, read, asked and converted: whatever their bytes are, the library answers and leaves what the
 //! reference does.
 
-mod canary;
-mod cases;
-mod library;
-mod plans;
-mod reference;
-mod sheets;
-
-use plans::{sheet_a, Numbers, Random};
-use reference::*;
-use sheets::{all_sheets, files, lengths, random_sheets, Change, Sheet};
+use crate::plans::{sheet_a, Numbers, Random};
+use crate::reference::*;
+use crate::sheets::{all_sheets, files, lengths, random_sheets, Change, Sheet};
 
 /// A byte that is flipped, alone and with right checks after it. A flip of all bits turns 0 into 255, which the check can't see.
 fn flipped(sheet: &Sheet, place: usize, bits: u8) -> [Sheet; 2] {

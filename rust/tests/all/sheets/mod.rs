@@ -1,7 +1,5 @@
 //! Sheets as they are handed over: the bytes of a plan in either form, good or not, and what is done to these bytes.
 
-#![allow(dead_code, unused_imports)] // each test file takes its own part
-
 mod asking;
 mod change;
 pub mod converting;

@@ -1,18 +1,12 @@
 //! `qirfadhun::write` and `qirfadhun::write_second` compared with the reference: code, place, bytes written, and all memory in and
 //! around what is lent. What is read and then written is the same sheet.
 
-mod canary;
-mod cases;
-mod library;
-mod plans;
-mod reference;
-mod sheets;
-
-use cases::{all_cases, random_cases, shrink, Case, Code};
-use plans::{damaged, judged_damages, largest_plan, largest_whole_plan, stored_damages, Damage, Numbers, Random};
-use reference::*;
-use sheets::writing::{by_library, by_reference, compare, Answer, Memory};
-use sheets::{files, numbers_in, reading, same_bytes, sheets_at_block_ends, Sheet, Writing};
+use crate::cases::{all_cases, random_cases, shrink, Case, Code};
+use crate::library;
+use crate::plans::{damaged, judged_damages, largest_plan, largest_whole_plan, stored_damages, Damage, Numbers, Random};
+use crate::reference::*;
+use crate::sheets::writing::{by_library, by_reference, compare, Answer, Memory};
+use crate::sheets::{files, numbers_in, reading, same_bytes, sheets_at_block_ends, Sheet, Writing};
 
 #[test]
 fn random_writings() {

@@ -1,0 +1,20 @@
+//! The tests, one program, so that what they share is compiled once. A folder is shared by them, a file has tests of its own.
+
+mod calls;
+mod canary;
+mod cases;
+mod library;
+mod plans;
+mod reference;
+mod sheets;
+
+mod call;
+mod conversions;
+mod damage;
+mod flights;
+mod outside;
+mod readings;
+mod records;
+mod sheet_a;
+mod verdicts;
+mod writings;
