@@ -8,8 +8,8 @@ use lib.Signed.{nonNeg, leZ-yes, yes-nonNeg}
 use mir.Syntax.{w64}
 use mir.Val.{SFits, Fits, toZ, ofZ}
 use mir.Facts.{toZ-ofZ}
-use Rattle.tries.proofs.say_signed.Statement.{statement}
-use Rattle.tries.proofs.say_signed.Tie as tie
+use Rattle.tries.proofs.saying.say_signed.Statement.{statement}
+use Rattle.tries.proofs.saying.say_signed.Tie as tie
 
 -- a number that fits and is not below 0 fits without its sign
 unsigned : (z : ℤ) → SFits w64 z → T (nonNeg z) → Fits w64 (natAbs z)
