@@ -1,9 +1,9 @@
--- Document 01, "Sheet A and its numbers": the lines marked P, and lines for document 02's C-11 and C-12 that were worked out by hand, as one table and one theorem.
+-- Document 01, "Sheet A and its numbers": the lines marked P, a line with deltas below 0, and lines for document 02's C-11 and C-12 that were worked out by hand, as one table and one theorem.
 -- Assumes nothing.
 use Prim.Native.Nat.{ℕ}
 use mathlib.Core.Path.{_≡_, refl}
 use mathlib.Core.List.{List, [], _∷_, _++_, map}
-use lib.IntN.{ℤ, pos}
+use lib.IntN.{ℤ, pos, negℤ}
 use Rattle.lists.specs.Sums.{upTo}
 use Rattle.terms.specs.Distance.{stands, distance}
 use Rattle.terms.specs.Moves.{recolouring, exchange, question, ofRegion, moveOf}
@@ -63,14 +63,22 @@ abcde = 97 ∷ 98 ∷ 99 ∷ 100 ∷ 101 ∷ []
 -- what the definitions give, and what they must give
 pub record Case : Type 0 where
   pub found : List ℤ
-  pub due : List ℕ
-
-infix 2 _is_
-abbrev _is_ : List ℤ → List ℕ → Case
-found is due = record { found = found; due = due }
+  pub due : List ℤ
 
 abbrev numbers : List ℕ → List ℤ
 numbers = map pos
+
+-- a number below 0
+abbrev minus : ℕ → ℤ
+minus n = negℤ (pos n)
+
+infix 2 _is_ _is-signed_
+abbrev _is-signed_ : List ℤ → List ℤ → Case
+found is-signed due = record { found = found; due = due }
+
+-- where no number is below 0
+abbrev _is_ : List ℤ → List ℕ → Case
+found is due = found is-signed numbers due
 
 -- the rows of moves on sheet A's colouring, three numbers a move
 rowsOn : Plan → List ℕ → List ℤ
@@ -97,6 +105,14 @@ ofSheetA =
     ∷ (numbers (verdicts planA colouringA) is (1 ∷ 0 ∷ 1 ∷ 0 ∷ 1 ∷ 0 ∷ 0 ∷ 5 ∷ []))
     ∷ (numbers (check abcde) is (240 ∷ 200 ∷ []))
     ∷ (numbers (work planA colouringA) is (1 ∷ 1 ∷ 1 ∷ 4 ∷ 4 ∷ 1 ∷ 1 ∷ 60 ∷ 40 ∷ 2 ∷ []))
+    ∷ []
+
+-- a line with deltas below 0: region 3 given to sector 2, as above, then its way back to sector 1 probed and made
+-- with region 3 back in sector 1 the colouring, and so the labels and the total, are those of the start: either delta is 15 - 126, and the same 3 regions are relabelled
+ofWayBack : List Case
+ofWayBack =
+    (rowsOn planA (2 ∷ 3 ∷ 2 ∷ 1 ∷ 3 ∷ 1 ∷ 2 ∷ 3 ∷ 1 ∷ []) is-signed
+    (pos 0 ∷ pos 111 ∷ pos 126 ∷ pos 3 ∷ pos 0 ∷ minus 111 ∷ pos 126 ∷ pos 0 ∷ pos 0 ∷ minus 111 ∷ pos 15 ∷ pos 3 ∷ []))
     ∷ []
 
 -- C-11's lines: the report's own example, then planF, where the distance is what a stretch lacks of 90 seconds
@@ -135,9 +151,9 @@ ofCheck = (numbers (added 0 0 abcde .0 ∷ added 0 0 abcde .1 ∷ []) is (495 �
 
 -- all lines
 pub cases : List Case
-cases = ofSheetA ++ ofFlights ++ ofOutside ++ ofCheck
+cases = ofSheetA ++ ofWayBack ++ ofFlights ++ ofOutside ++ ofCheck
 
 -- every line of the table is as it must be
-pub all-right : map (λ c. c .found) cases ≡ map (λ c. numbers (c .due)) cases
-unfolding sheetA planA planF planO colouringA flight12 colouring12 lone abcde rowsOn ofSheetA ofFlights ofOutside ofCheck cases stands distance recolouring exchange question ofRegion moveOf edgesOf visitsOf flightsOf constraintsOf takeIn takeAll labels before stretches visits ncc nccAll load whole outsideArea border counts loads deviation connected bounded dwelling byKind violation holds total leadsTo borderOf dwellingOf partOf regionViolation movesOf next delta differing relabelled row cells rows verdict verdictsOf work isIn surface
+pub all-right : map (λ c. c .found) cases ≡ map (λ c. c .due) cases
+unfolding sheetA planA planF planO colouringA flight12 colouring12 lone abcde rowsOn ofSheetA ofWayBack ofFlights ofOutside ofCheck cases stands distance recolouring exchange question ofRegion moveOf edgesOf visitsOf flightsOf constraintsOf takeIn takeAll labels before stretches visits ncc nccAll load whole outsideArea border counts loads deviation connected bounded dwelling byKind violation holds total leadsTo borderOf dwellingOf partOf regionViolation movesOf next delta differing relabelled row cells rows verdict verdictsOf work isIn surface
 all-right = refl

@@ -12,11 +12,13 @@ fn say_number(n: u64) {
     io::print_decimal(STDOUT_FILENO, n);
 }
 
-// A number of a row; what is below 0 is not printed.
 fn say_signed(n: i64) {
     if 0 <= n {
         say_number(n as u64);
+        return;
     }
+    say(b" -");
+    io::print_decimal(STDOUT_FILENO, (-1 - n) as u64 + 1);
 }
 
 fn say_answer(name: &[u8], answer: Answer) {
