@@ -13,7 +13,7 @@ use Rattle.writing.specs.Promise.{Outcome}
 use Rattle.conversion.specs.Promise as conversion
 use Rattle.conversion.specs.Trips.{converted, converted-accepted, converted-contents, source-accepted}
 use Rattle.conversion.specs.Promised.{contentsLeft, contents-left}
-use Rattle.judgement.specs.Judgement.{judged, judgement}
+use Rattle.judging.specs.Judgement.{judged, judgement}
 use Rattle.call.specs.Promise as call
 
 -- a call on the contents that a reading leaves, with these moves and this lent memory

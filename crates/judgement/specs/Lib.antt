@@ -1,7 +1,4 @@
-pub mod Judgement
-pub mod Judged
-pub mod NoMoves
-pub mod JudgedLaws
-pub mod Fronts
+pub mod Promise
+pub mod Told
 pub mod Printing
 pub mod SheetA

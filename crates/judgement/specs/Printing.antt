@@ -9,10 +9,11 @@ use Rattle.meaning.specs.Plan.{constraintLength}
 use Rattle.meaning.specs.Moves.{verdictLength}
 use Rattle.report.specs.Text.{verdictText, refusedText, mostText}
 use Rattle.form.specs.Over.{over}
-use Rattle.judgement.specs.declared.Judged.{Judged}
-use Rattle.judgement.specs.Judgement.{code, textOf, Printed, printed, TextPromise, left}
-use Rattle.judgement.specs.Judged.{Leaves}
-use Rattle.judgement.specs.Fronts.{leaves-told, constraints-front, verdicts-front}
+use Rattle.judging.specs.declared.Judged.{Judged}
+use Rattle.judging.specs.Judged.{Leaves}
+use Rattle.judging.specs.Fronts.{constraints-front, verdicts-front}
+use Rattle.judgement.specs.Promise.{code, textOf, Printed, printed, TextPromise, left}
+use Rattle.judgement.specs.Told.{leaves-told}
 
 module _ {sheet cs vs : List ℕ} {r : Judged} {cs′ vs′ : List ℕ} (h : Leaves sheet cs vs r cs′ vs′) where
   -- of a sheet that is refused

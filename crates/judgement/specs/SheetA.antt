@@ -20,7 +20,8 @@ use Rattle.form.specs.Refusals.{openTable, contentsRefusal, sheetRefusal}
 use Rattle.form.specs.Accepted.{opened-form}
 use Rattle.form.specs.RoundTrip.{accepted-written, contents-again}
 use Rattle.form.specs.SheetA.{sheetA, flownA}
-use Rattle.judgement.specs.Judgement.{verdictsHeld, totalHeld, judged, refusedFor, judgement, verdictAt, holds, violation, textOf}
+use Rattle.judging.specs.Judgement.{verdictsHeld, totalHeld, judged, refusedFor, judgement}
+use Rattle.judgement.specs.Promise.{verdictAt, holds, violation, textOf}
 
 -- the sheet of contents that are not refused comes to the verdicts on them and their total
 pub judgement-written : (f : Form) (k : Contents) → carried f k ≡ k → contentsRefusal f k .code ≡ 0

@@ -1,6 +1,6 @@
 // The calls on the bytes of a sheet, each of which answers one number.
-ghost use Rattle.judgement.specs.Judgement.{Promise};
-ghost use Rattle.judgement.specs.Judgement as judgement;
+ghost use Rattle.judgement.specs.Promise.{Promise};
+ghost use Rattle.judgement.specs.Promise as judgement;
 
 // The code that a sheet is refused with, 0 when it is not.
 #[no_mangle]

@@ -1,6 +1,6 @@
 -- What is answered is all that is kept of the judgement.
 use borrow.Author.Needs.{needs}
-use Rattle.judgement.specs.Fronts.{leaves-told}
+use Rattle.judgement.specs.Told.{leaves-told}
 use Rattle.judgement.proofs.numbers_in.Statement.{statement}
 use Rattle.judgement.proofs.numbers_in.Tie as tie
 

@@ -8,7 +8,7 @@ use lib.ListN.{length, take}
 use lib.Seq.{length-take-le}
 use Rattle.meaning.specs.Plan.{constraintLength, mostConstraints}
 use Rattle.meaning.specs.Moves.{verdictLength}
-use Rattle.judgement.specs.Fronts.{few-left}
+use Rattle.judging.specs.Fronts.{few-left}
 use Rattle.judgement.specs.Printing.{text-refused, text-judged, promise-shown}
 use Rattle.judgement.proofs.put_judged.Statement.{statement}
 use Rattle.judgement.proofs.put_judged.Tie as tie

@@ -4,7 +4,8 @@ use native.Mathlib.Omega.{arith}
 use borrow.Author.Tests.{not-true, not-false}
 use borrow.Author.Needs.{needs}
 use Rattle.lists.specs.Sums.{In}
-use Rattle.judgement.specs.Fronts.{few-left, verdict-outside, place-in, verdict-within}
+use Rattle.judging.specs.Fronts.{few-left}
+use Rattle.judgement.specs.Told.{verdict-outside, place-in, verdict-within}
 use Rattle.judgement.proofs.verdict_at.Statement.{statement}
 use Rattle.judgement.proofs.verdict_at.Tie as tie
 

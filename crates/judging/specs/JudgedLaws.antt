@@ -15,9 +15,9 @@ use Rattle.form.specs.Refusals.{refusalBy}
 use Rattle.form.specs.Over.{over}
 use Rattle.holding.specs.Held.{contentsHeld, Holds}
 use Rattle.holding.specs.HeldLaws.{holds-contents}
-use Rattle.judgement.specs.declared.Judged.{Judged}
-use Rattle.judgement.specs.Judgement.{verdictsHeld, totalHeld, Judgement, judged, refusedFor, judgement}
-use Rattle.judgement.specs.Judged.{numbers, Leaves}
+use Rattle.judging.specs.declared.Judged.{Judged}
+use Rattle.judging.specs.Judgement.{verdictsHeld, totalHeld, Judgement, judged, refusedFor, judgement}
+use Rattle.judging.specs.Judged.{numbers, Leaves}
 
 -- a sheet that is refused is judged so
 judgement-refused : (sheet : List ℕ) → (refusalBy sheet .code ≡ 0 → ⊥) → judgement sheet ≡ refusedFor (refusalBy sheet)

@@ -3,52 +3,15 @@
 use Prim.Native.Nat.{ℕ, _+_, _*_, _-_, _/_}
 use mathlib.Core.Path.{_≡_, sym, _∙_}
 use mathlib.Core.Bool.{cond}
-use mathlib.Core.List.{List, []}
+use mathlib.Core.List.{List}
 use lib.Dec.{eqb, leb}
 use lib.ListN.{length, getD}
 use Rattle.terms.specs.Plan.{within}
-use Rattle.meaning.specs.Plan.{Plan, planOf, constraintLength}
-use Rattle.meaning.specs.Kinds.{total}
-use Rattle.meaning.specs.Moves.{verdictLength, verdicts}
-use Rattle.refusals.specs.declared.Refusal.{Refusal}
-use Rattle.refusals.specs.Table.{none}
+use Rattle.meaning.specs.Plan.{constraintLength}
+use Rattle.meaning.specs.Moves.{verdictLength}
 use Rattle.report.specs.Text.{verdictText, refusedText, mostText}
-use Rattle.form.specs.Form.{Contents, contentsBy}
-use Rattle.form.specs.Refusals.{refusalBy}
 use Rattle.form.specs.Over.{over}
-
--- the plan of some contents
-abbrev pub planHeld : Contents → Plan
-planHeld k = planOf (k .R) (k .S) (k .workloads) (k .outside) (k .edges) (k .counts) (k .visits) (k .constraints)
-
--- the verdicts on them
-abbrev pub verdictsHeld : Contents → List ℕ
-verdictsHeld k = verdicts (planHeld k) (k .colouring)
-
--- their total
-abbrev pub totalHeld : Contents → ℕ
-totalHeld k = total (planHeld k) (k .colouring)
-
--- what a sheet comes to: why it is refused, or its constraints, the verdict on each and the total
-pub record Judgement : Type 0 where
-  pub refusal : Refusal
-  pub constraints : List ℕ
-  pub verdicts : List ℕ
-  pub total : ℕ
-
--- a sheet that is not refused has a verdict on each of its constraints, and a total
-unfoldable pub judged : List ℕ → Judgement
-judged sheet =
-    let k = contentsBy sheet in
-    record { refusal = none; constraints = k .constraints; verdicts = verdictsHeld k; total = totalHeld k }
-
--- a sheet that is refused has none, and its total is 0
-unfoldable pub refusedFor : Refusal → Judgement
-refusedFor r = record { refusal = r; constraints = []; verdicts = []; total = 0 }
-
--- what a sheet comes to, refused or not
-unfoldable pub judgement : List ℕ → Judgement
-judgement sheet = cond (eqb (refusalBy sheet .code) 0) (judged sheet) (refusedFor (refusalBy sheet))
+use Rattle.judging.specs.Judgement.{judgement}
 
 -- ---- one number each
 

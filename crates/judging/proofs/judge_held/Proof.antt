@@ -7,9 +7,9 @@ use lib.Seq.{length-take-le}
 use Rattle.form.specs.ContentsLaws.{Counted}
 use Rattle.holding.specs.Held.{contentsHeld}
 use Rattle.holding.specs.HeldLaws.{counted-held}
-use Rattle.judgement.specs.NoMoves.{front-of, judges-lists}
-use Rattle.judgement.proofs.judge_held.Statement.{statement}
-use Rattle.judgement.proofs.judge_held.Tie as tie
+use Rattle.judging.specs.NoMoves.{front-of, judges-lists}
+use Rattle.judging.proofs.judge_held.Statement.{statement}
+use Rattle.judging.proofs.judge_held.Tie as tie
 
 -- what is held has as many of each as the head says
 counted : (s : tie.Start) → Counted (s .args .head) (contentsHeld (s .args .head) (s .args .held .now))

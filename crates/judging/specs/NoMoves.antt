@@ -22,7 +22,7 @@ use Rattle.form.specs.Form.{Contents}
 use Rattle.form.specs.ContentsLaws.{valid-contents, limits-valid}
 use Rattle.form.specs.Refusals.{contentsTable, contentsRefusal}
 use Rattle.form.specs.Over.{over}
-use Rattle.judgement.specs.Judgement.{planHeld, verdictsHeld, totalHeld}
+use Rattle.judging.specs.Judgement.{planHeld, verdictsHeld, totalHeld}
 
 -- ---- how many verdicts there are
 

@@ -10,9 +10,9 @@ use Rattle.form.specs.Form.{headIn, headBy}
 use Rattle.form.specs.FormLaws.{Bounded}
 use Rattle.form.specs.Over.{over}
 use Rattle.holding.specs.HeldLaws.{counted-held, holds-head, holds-bounded, holds-taken}
-use Rattle.judgement.specs.JudgedLaws.{leaves-refused, leaves-judged}
-use Rattle.judgement.proofs.judge_sheet.Statement.{statement}
-use Rattle.judgement.proofs.judge_sheet.Tie as tie
+use Rattle.judging.specs.JudgedLaws.{leaves-refused, leaves-judged}
+use Rattle.judging.proofs.judge_sheet.Statement.{statement}
+use Rattle.judging.proofs.judge_sheet.Tie as tie
 
 -- the head is that of the sheet as its letters have it
 head : (c : tie.After-head-in) → c .head-in .result ≡ headBy (c .before .before .before .before .before .before .before .before .before .before .args .sheet .now)

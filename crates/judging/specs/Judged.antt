@@ -5,11 +5,9 @@ use mathlib.Core.Path.{_≡_}
 use mathlib.Core.List.{List}
 use lib.ListN.{length}
 use Rattle.meaning.specs.Plan.{constraintLength}
-use Rattle.meaning.specs.Kinds.{total}
-use Rattle.meaning.specs.Moves.{verdicts}
 use Rattle.form.specs.Over.{over}
-use Rattle.judgement.specs.declared.Judged.{Judged}
-use Rattle.judgement.specs.Judgement.{Judgement, judgement, code, place, totalOf, constraintCount, Promise}
+use Rattle.judging.specs.declared.Judged.{Judged}
+use Rattle.judging.specs.Judgement.{Judgement, judgement}
 
 -- the numbers of a judgement: code and place of its refusal, how many constraints it has, and its total
 abbrev pub numbers : Judgement → Judged
@@ -26,10 +24,3 @@ pub record Leaves (sheet constraints verdicts : List ℕ) (answer : Judged) (con
   pub answered : answer ≡ numbers (judgement sheet)
   pub constraints-left : constraints′ ≡ over (judgement sheet .constraints) constraints
   pub verdicts-left : verdicts′ ≡ over (judgement sheet .verdicts) verdicts
-
--- each number of the answer is the one that is promised of the sheet
-pub record Told (sheet : List ℕ) (answer : Judged) : Type 0 where
-  pub code-told : Promise (code sheet) (answer .code)
-  pub place-told : Promise (place sheet) (answer .place)
-  pub constraints-told : Promise (constraintCount sheet) (answer .constraints)
-  pub total-told : Promise (totalOf sheet) (answer .total)
