@@ -5,9 +5,10 @@ use crate::plans::sheet_a;
 use crate::reference::*;
 use crate::sheets::{self, files, reading, Change, Sheet};
 use std::collections::BTreeSet;
+use std::fs::OpenOptions;
 use std::io::Write;
 use std::path::Path;
-use std::process::{Command, Stdio};
+use std::process::{Command, Output, Stdio};
 
 /// The program. Where the machine can't run it by itself, `QIRFADHUN_RUNNER` names the emulator that does.
 fn program() -> Command {
@@ -23,14 +24,22 @@ fn program() -> Command {
     }
 }
 
-/// What the program prints for these bytes.
-fn printed(sheet: &[u8]) -> String {
-    let mut running = program().stdin(Stdio::piped()).stdout(Stdio::piped()).spawn().expect("the program starts");
+/// What the program does on these bytes, with this standard output.
+fn run(sheet: &[u8], out: Stdio) -> Output {
+    let started = program().stdin(Stdio::piped()).stdout(out).stderr(Stdio::piped()).spawn();
+    let mut running = started.expect("the program starts");
     let taken = running.stdin.take().expect("its input is open").write_all(sheet);
     // It needn't take all of a sheet that is too long.
     assert!(taken.is_ok() || sheet.len() > Form::of(sheet).blocks * BLOCK, "the program takes the sheet: {taken:?}");
     let output = running.wait_with_output().expect("the program ends");
     assert!(output.status.code().is_some(), "the program ends by itself: {}", output.status);
+    output
+}
+
+/// What the program prints for these bytes.
+fn printed(sheet: &[u8]) -> String {
+    let output = run(sheet, Stdio::piped());
+    assert_eq!(String::from_utf8_lossy(&output.stderr), "", "the text is written");
     String::from_utf8_lossy(&output.stdout).into_owned()
 }
 
@@ -74,6 +83,33 @@ fn outside_areas_and_a_flight_in_six_lines() {
 #[test]
 fn sheet_files() {
     all_cases("sheet files", files().into_iter().map(|(sheet, _)| Printed(sheet)));
+}
+
+/// Beside each sheet's file stands its text: also that of the longest sheet, and of one that is a block longer.
+#[test]
+fn stored_texts() {
+    let mut lengths = BTreeSet::new();
+    for folder in ["sheets", "sheets/refused"] {
+        let folder = Path::new(env!("CARGO_MANIFEST_DIR")).join("..").join(folder);
+        for entry in folder.read_dir().expect("a folder of sheets") {
+            let path = entry.expect("a file").path();
+            if path.extension().is_some_and(|extension| extension == "sheet") {
+                let bytes = std::fs::read(&path).expect("a sheet");
+                let text = std::fs::read_to_string(path.with_extension("text")).expect("its text");
+                assert_eq!(Verdicts::of(&bytes).text(), text, "{}", path.display());
+                assert_eq!(printed(&bytes), text, "{}", path.display());
+                lengths.insert(bytes.len() / BLOCK);
+            }
+        }
+    }
+    assert!(lengths.is_superset(&BTreeSet::from([SECOND.blocks, SECOND.blocks + 1])));
+}
+
+#[test]
+fn text_that_cannot_be_written() {
+    let full = OpenOptions::new().write(true).open("/dev/full").expect("a device that takes nothing");
+    let output = run(&Sheet::a(&FIRST).bytes(), full.into());
+    assert_eq!(String::from_utf8_lossy(&output.stderr), "verdicts: the text could not be written\n");
 }
 
 #[test]
