@@ -23,8 +23,9 @@ use Rattle.form.specs.Form.{formIn, contentsBy}
 use Rattle.form.specs.ContentsLaws.{valid-contents}
 use Rattle.form.specs.Refusals.{refusalBy}
 use Rattle.form.specs.Accepted.{accepted}
-use Rattle.judgement.specs.Judgement.{Judgement, planHeld, judged, refusedFor, judgement, code, totalOf, constraintCount, verdictAt}
-use Rattle.judgement.specs.Judgement as judgement
+use Rattle.judging.specs.Judgement.{Judgement, planHeld, judged, refusedFor, judgement}
+use Rattle.judgement.specs.Promise.{code, totalOf, constraintCount, verdictAt}
+use Rattle.judgement.specs.Promise as judgement
 use Rattle.demands.specs.RuleLaws.{one-of}
 use Rattle.demands.specs.Calls.{SamePlan, same-plan, call-valid, first-total, last-total, verdicts-left}
 

@@ -32,7 +32,7 @@ judgement-written f k whole z =
     rw (opened-form f (sheetOf f k) (accepted-written f k whole z .opened), r .1, r .0)
 
 -- sheet A's does, as a first sheet
-first-written : judgement (sheetOf First sheetA) ≡ record { refusal = none; constraints = sheetA .constraints; verdicts = verdictsHeld sheetA; total = totalHeld sheetA }
+pub first-written : judgement (sheetOf First sheetA) ≡ record { refusal = none; constraints = sheetA .constraints; verdicts = verdictsHeld sheetA; total = totalHeld sheetA }
 unfolding sheetA refusal planRefusal planTable offFrom edgeRight constraintRight flightsOf
 first-written = judgement-written First sheetA refl refl
 

@@ -1,2 +1,3 @@
 pub mod Bytes
 pub mod Reader
+pub mod Sheets
