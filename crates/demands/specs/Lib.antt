@@ -12,5 +12,15 @@ pub mod Recolourings
 pub mod Tables
 pub mod Rules
 pub mod RuleLaws
+pub mod PlanCodes
 pub mod Refusals
+pub mod Parts
+pub mod SheetRules
+pub mod SheetNames
+pub mod SheetLaws
+pub mod SheetCodes
+pub mod FirstSheets
+pub mod Readings
+pub mod Writings
+pub mod Conversions
 pub mod Converted

@@ -1,6 +1,6 @@
 -- The tests and the rows of the call's table say what the rules say.
 -- Assumes nothing.
-use Prim.Native.Nat.{ℕ, zero, suc, _+_, _-_, _*_, _/_, _%_, _≤_, _<_}
+use Prim.Native.Nat.{ℕ, zero, suc, _+_, _-_, _/_, _%_, _≤_, _<_}
 use native.Mathlib.Numerals.{sub-one}
 use native.Mathlib.Omega.{arith}
 use native.Mathlib.Decide.{ℕ-discrete}
@@ -11,17 +11,16 @@ use mathlib.Mathlib.Data.Bool.Basic.{or-inl, or-inr}
 use mathlib.Core.List.{List, [], _∷_}
 use borrow.Author.Tests.{leb-true, le-leb, ltb-true, lt-ltb, eqb-true, eq-eqb, ne-eqb, not-false}
 use lib.Dec.{eqb, leb, ltb, T}
-use lib.ListN.{length, take, drop}
-use Rattle.lists.specs.Sums.{In, sum, Every}
+use lib.ListN.{length}
+use Rattle.lists.specs.Sums.{In, Every}
 use Rattle.lists.specs.Tests.{or-cases}
 use Rattle.terms.specs.Plan.{within}
-use Rattle.meaning.specs.Plan.{Visit, VisitLimits, edgeLength, visitLength, constraintLength, edgeAt, constraintAt, mostRegions, mostSectors, mostWorkload, mostEdges, mostArea, mostFlights, mostVisits, mostDwell, mostKind, mostConstraints, mostLimit, mostWeight, mostMoves}
-use Rattle.meaning.specs.Moves.{moveLength, rowLength, verdictLength}
-use Rattle.scans.specs.Items.{offFrom, firstOff, atMost, edgeRight, countRight, visitsRight, flightRight, constraintRight, sectorRight, records}
-use Rattle.refusals.specs.Table.{Row, refused, none, whole, each, refusal, planTable, roomTable, Given, callTable}
+use Rattle.meaning.specs.Plan.{Visit, VisitLimits, edgeAt, constraintAt, mostArea, mostDwell, mostLimit, mostWeight}
+use Rattle.scans.specs.Items.{offFrom, firstOff, edgeRight, visitsRight, constraintRight, records}
+use Rattle.refusals.specs.Table.{Row, refused, none, whole, each, refusal}
 use Rattle.refusals.specs.Passed.{passed-each, each-passed}
-use Rattle.demands.specs.Tables.{inOrder, Stand, first-or-others}
-use Rattle.demands.specs.Rules.{Each, First, ListPlace, EdgeRules, ConstraintRules, rules}
+use Rattle.demands.specs.Tables.{first-or-others}
+use Rattle.demands.specs.Rules.{Each, First, ListPlace, EdgeRules, ConstraintRules}
 
 -- ---- tests and what they say
 
@@ -43,7 +42,7 @@ passes-true true h = refl
 
 module _ {s t : Bool} {A B : Type 0} (f : s ≡ true ↔ A) (h : t ≡ true ↔ B) where
   -- two tests that both pass
-  both : s && t ≡ true ↔ A × B
+  pub both : s && t ≡ true ↔ A × B
   both = Iff·trans (and-eq-true-iff s t) (Iff·and f h)
 
   -- two tests of which one passes
@@ -55,7 +54,7 @@ pub one-of : (n x : ℕ) → within 1 x n ≡ true ↔ In n x
 one-of n x = Iff·trans (both (at-most 1 x) (at-most x n)) (λ p. record { low = p .0; high = p .1 }, λ i. (i .low, i .high))
 
 -- the table's test of a list of at most so many whole records
-some-records : (width high : ℕ) (xs : List ℕ) → records width 0 high xs ≡ true ↔ (length xs % width ≡ 0) × (length xs / width ≤ high)
+pub some-records : (width high : ℕ) (xs : List ℕ) → records width 0 high xs ≡ true ↔ (length xs % width ≡ 0) × (length xs / width ≤ high)
 some-records width high xs =
     Iff·trans (both (equal (length xs % width) 0) (both (at-most 0 (length xs / width)) (at-most (length xs / width) high)))
     (λ p. (p .0, p .1 .1), λ p. (p .0, (omega arith, p .1)))
@@ -84,20 +83,20 @@ flight-rules R (v ∷ vs) =
     )
 
 -- the table's test of a constraint is its rules
-pub constraint-rules : (constraints : List ℕ) (k : ℕ) → constraintRight mostKind constraints k ≡ true ↔ ConstraintRules constraints k
+pub constraint-rules : (kinds : ℕ) (constraints : List ℕ) (k : ℕ) → constraintRight kinds constraints k ≡ true ↔ ConstraintRules kinds constraints k
 unfolding constraintRight
-constraint-rules constraints k =
+constraint-rules kinds constraints k =
     let c = constraintAt constraints k in
     let takes = both (one-of 6 (c .relation)) (either (either (equal (c .kind) 1) (at-most 4 (c .kind))) (equal (c .relation) 1)) in
-    let test = both (both (both (one-of mostKind (c .kind)) takes) (at-most (c .limit) mostLimit)) (one-of mostWeight (c .weight)) in (
-      λ t. let p = test .0 t in record { limits = record { kind = p .0 .0 .0; relation = p .0 .0 .1 .0; limit = p .0 .1; weight = p .1 }; takes = p .0 .0 .1 .1 },
-      λ r. test .1 (((r .limits .kind, (r .limits .relation, r .takes)), r .limits .limit), r .limits .weight),
+    let test = both (both (both (one-of kinds (c .kind)) takes) (at-most (c .limit) mostLimit)) (one-of mostWeight (c .weight)) in (
+      λ t. let p = test .0 t in record { kind = p .0 .0 .0; relation = p .0 .0 .1 .0; takes = p .0 .0 .1 .1; limit = p .0 .1; weight = p .1 },
+      λ r. test .1 (((r .kind, (r .relation, r .takes)), r .limit), r .weight),
     )
 
 -- ---- rows and what they say
 
 -- a row on a whole passes exactly when its test says so
-whole-passes : (code : ℕ) {t : Bool} {A : Type 0} → t ≡ true ↔ A → whole code t .given ≡ false ↔ A
+pub whole-passes : (code : ℕ) {t : Bool} {A : Type 0} → t ≡ true ↔ A → whole code t .given ≡ false ↔ A
 whole-passes code {t} f = (λ e. f .0 (not-false t e), λ a. rw (f .1 a))
 
 module _ (right : ℕ → Bool) where
@@ -126,7 +125,7 @@ module _ (right : ℕ → Bool) where
 
   module _ (code n : ℕ) {A : ℕ → Type 0} (f : (k : ℕ) → right k ≡ true ↔ A k) where
     -- a row on each item passes exactly when each is right
-    each-passes : each code n right .given ≡ false ↔ Each n A
+    pub each-passes : each code n right .given ≡ false ↔ Each n A
     each-passes = (
       λ e k h. f k .0 (passes-true (right k) (passed-each right n e k h)),
       λ a. each-passed right n (λ k h. rw (f k .1 (a k h)) tt),
@@ -143,16 +142,21 @@ module _ (right : ℕ → Bool) where
         }
 
 -- a group of one row passes exactly when the row does
-alone : {A B : Type 0} → A ↔ B → (A × Unit {0}) ↔ B
+pub alone : {A B : Type 0} → A ↔ B → (A × Unit {0}) ↔ B
 alone f = (λ p. f .0 (p .0), λ b. (f .1 b, tt))
 
 -- a group of two rows passes exactly when both do
-two : {A B C D : Type 0} → A ↔ B → C ↔ D → (A × (C × Unit {0})) ↔ B × D
+pub two : {A B C D : Type 0} → A ↔ B → C ↔ D → (A × (C × Unit {0})) ↔ B × D
 two f h = Iff·and f (alone h)
 
 -- so does a group of four, two and two
-four : {A B C D E F G H : Type 0} → A ↔ B → C ↔ D → E ↔ F → G ↔ H → (A × (C × (E × (G × Unit {0})))) ↔ (B × D) × (F × H)
+pub four : {A B C D E F G H : Type 0} → A ↔ B → C ↔ D → E ↔ F → G ↔ H → (A × (C × (E × (G × Unit {0})))) ↔ (B × D) × (F × H)
 four a b c d = (λ p. ((a .0 (p .0), b .0 (p .1 .0)), (c .0 (p .1 .1 .0), d .0 (p .1 .1 .1 .0))), λ q. (a .1 (q .0 .0), (b .1 (q .0 .1), (c .1 (q .1 .0), (d .1 (q .1 .1), tt)))))
+
+-- the group of the next code has that code and says what its rule says, and so do those after it
+infixr 2 _then_
+pub _then_ : {A B : Type 0} → A → B → (Unit {0} × A) × B
+a then b = ((tt, a), b)
 
 -- ---- places
 
@@ -194,48 +198,3 @@ lists-place code n right right′ {A} {B} f h t t′ {Long} {Long′} l l′ som
     first-or-others first (second ∷ []) (λ r. ListPlace Long n A (r .place) ⊎ ((Long × Each n A) × ListPlace Long′ n B (r .place)))
     (λ off. inl (list-place code n right f t l (λ a. off (passes .1 a))))
     (λ p. let a = passes .0 p in inr (a, list-place code n right′ h t′ l′ (λ b. some (a, b))))
-
--- ---- the table and the rules
-
--- a table cut into groups of these lengths
-abbrev groups : List ℕ → List Row → List (List Row)
-groups [] rs = []
-groups (n ∷ ns) rs = take n rs ∷ groups ns (drop n rs)
-
--- the call's table by its codes: of codes 3, 14 and 8 there are two rows, one on the whole list and one on each item, and of code 13 two such pairs
-abbrev pub callGroups : Given → List (List Row)
-callGroups g = groups (1 ∷ 1 ∷ 2 ∷ 2 ∷ 1 ∷ 1 ∷ 4 ∷ 1 ∷ 1 ∷ 2 ∷ 1 ∷ 1 ∷ 1 ∷ 1 ∷ []) (callTable g)
-
--- the groups have all rows of the table, in its order
-pub groups-all : (g : Given) → inOrder (callGroups g) ≡ callTable g
-unfolding callTable planTable roomTable
-groups-all g = refl
-
--- the group of the next code has that code and says what its rule says, and so do those after it
-infixr 2 _then_
-_then_ : {A B : Type 0} → A → B → (Unit {0} × A) × B
-a then b = ((tt, a), b)
-
--- each code's rows have that code, and pass exactly when its rule holds
-pub groups-stand : (g : Given) → Stand (callGroups g) (rules g)
-unfolding callTable planTable roomTable
-groups-stand g =
-    alone (whole-passes 1 (one-of mostRegions (g .R)))
-    then alone (whole-passes 2 (one-of mostSectors (g .S)))
-    then two (whole-passes 3 (equal (length (g .workloads)) (g .R))) (each-passes (atMost mostWorkload (g .workloads)) 3 (length (g .workloads)) (λ k. at-most _ _))
-    then two (whole-passes 14 (equal (length (g .outside)) (g .R))) (each-passes (atMost mostArea (g .outside)) 14 (length (g .outside)) (λ k. at-most _ _))
-    then alone (whole-passes 4 (some-records edgeLength mostEdges (g .edges)))
-    then alone (each-passes (edgeRight (g .R) (g .edges)) 5 (length (g .edges) / edgeLength) (edge-rules (g .R) (g .edges)))
-    then four
-    (whole-passes 13 (at-most (length (g .counts)) mostFlights))
-    (each-passes (countRight (g .counts)) 13 (length (g .counts)) (λ k. one-of mostVisits _))
-    (whole-passes 13 (equal (length (g .visits)) (visitLength * sum (g .counts) (λ n. n))))
-    (each-passes (flightRight (g .R) (g .counts) (g .visits)) 13 (length (g .counts)) (λ k. flight-rules (g .R) _))
-    then alone (whole-passes 6 (both (equal (length (g .constraints) % constraintLength) 0) (one-of mostConstraints (length (g .constraints) / constraintLength))))
-    then alone (each-passes (constraintRight mostKind (g .constraints)) 7 (length (g .constraints) / constraintLength) (constraint-rules (g .constraints)))
-    then two (whole-passes 8 (equal (length (g .colouring)) (g .R))) (each-passes (sectorRight (g .S) (g .colouring)) 8 (length (g .colouring)) (λ k. one-of (g .S) _))
-    then alone (whole-passes 9 (some-records moveLength mostMoves (g .moves)))
-    then alone (whole-passes 10 (at-most (rowLength * (length (g .moves) / moveLength)) (g .rows)))
-    then alone (whole-passes 11 (at-most (verdictLength * (length (g .constraints) / constraintLength)) (g .verdicts)))
-    then alone (whole-passes 12 (at-most (g .R + 2 * g .S + 1) (g .work)))
-    then tt

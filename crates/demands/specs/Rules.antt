@@ -3,13 +3,13 @@
 use Prim.Native.Nat.{ℕ, _+_, _-_, _*_, _/_, _%_, _≤_, _<_}
 use mathlib.Core.Path.{_≡_}
 use mathlib.Core.Logic.{_⊎_}
-use mathlib.Core.List.{List, [], _∷_}
+use mathlib.Core.List.{List, [], _∷_, _++_}
 use lib.ListN.{length, getD}
 use Rattle.lists.specs.Sums.{In, sum, Every}
-use Rattle.meaning.specs.Plan.{Edge, EdgeLimits, VisitLimits, ConstraintLimits, edgeLength, visitLength, constraintLength, edgeAt, flightsOf, constraintAt, mostRegions, mostSectors, mostWorkload, mostEdges, mostArea, mostFlights, mostVisits, mostConstraints, mostMoves}
+use Rattle.meaning.specs.Plan.{Edge, EdgeLimits, VisitLimits, edgeLength, visitLength, constraintLength, edgeAt, flightsOf, constraintAt, mostRegions, mostSectors, mostWorkload, mostEdges, mostArea, mostFlights, mostVisits, mostKind, mostConstraints, mostLimit, mostWeight, mostMoves}
 use Rattle.meaning.specs.Moves.{moveLength, rowLength, verdictLength}
 use Rattle.refusals.specs.Table.{Given}
-use Rattle.demands.specs.Tables.{Rule}
+use Rattle.demands.specs.Tables.{Rule, _asks_}
 
 -- edge e comes after edge d: strictly increasing by a, then b
 abbrev pub After : Edge → Edge → Type 0
@@ -24,10 +24,13 @@ pub record EdgeRules (R : ℕ) (edges : List ℕ) (k : ℕ) : Type 0 where
 abbrev pub FlightRules : ℕ → List ℕ → List ℕ → ℕ → Type 0
 FlightRules R counts visits k = Every (VisitLimits R) (getD (flightsOf counts visits) k [])
 
--- constraint k, from 0, keeps to its limits, and its kind takes its relation: kinds 1, 4 and 5 any, kinds 2 and 3 relation 1
-pub record ConstraintRules (constraints : List ℕ) (k : ℕ) : Type 0 where
-  pub limits : ConstraintLimits (constraintAt constraints k)
+-- constraint k, from 0, is of one of the kinds 1 to `kinds`, its kind takes its relation: kinds 1, 4 and 5 any, kinds 2 and 3 relation 1, and its limit and weight are within theirs
+pub record ConstraintRules (kinds : ℕ) (constraints : List ℕ) (k : ℕ) : Type 0 where
+  pub kind : In kinds (constraintAt constraints k .kind)
+  pub relation : In 6 (constraintAt constraints k .relation)
   pub takes : ((constraintAt constraints k .kind ≡ 1) ⊎ (4 ≤ constraintAt constraints k .kind)) ⊎ (constraintAt constraints k .relation ≡ 1)
+  pub limit : constraintAt constraints k .limit ≤ mostLimit
+  pub weight : In mostWeight (constraintAt constraints k .weight)
 
 -- each of n items, from 0, is right
 abbrev pub Each : ℕ → (ℕ → Type 0) → Type 0
@@ -79,9 +82,9 @@ VisitsFit g = (length (g .visits) ≡ visitLength * sum (g .counts) (λ n. n)) �
 abbrev pub ConstraintCountFits : Given → Type 0
 ConstraintCountFits g = (length (g .constraints) % constraintLength ≡ 0) × In mostConstraints (length (g .constraints) / constraintLength)
 
--- code 7: each constraint has a kind of 1..5, a relation that its kind takes, and limit and weight within theirs
-abbrev pub ConstraintsFit : Given → Type 0
-ConstraintsFit g = Each (length (g .constraints) / constraintLength) (ConstraintRules (g .constraints))
+-- code 7: each constraint has one of the kinds, a relation that its kind takes, and limit and weight within theirs
+abbrev pub ConstraintsFit : ℕ → Given → Type 0
+ConstraintsFit kinds g = Each (length (g .constraints) / constraintLength) (ConstraintRules kinds (g .constraints))
 
 -- code 8: the colouring is R long, and each sector is one of 1..S
 abbrev pub ColouringFits : Given → Type 0
@@ -103,14 +106,9 @@ VerdictsFit g = verdictLength * (length (g .constraints) / constraintLength) ≤
 abbrev pub WorkFits : Given → Type 0
 WorkFits g = g .R + 2 * g .S + 1 ≤ g .work
 
--- a code and what it asks for
-infix 6 _asks_
-abbrev pub _asks_ : ℕ → Type 0 → Rule
-code asks Holds = record { code = code; Holds = Holds }
-
--- the codes and their rules, in the order in which they are checked
-abbrev pub rules : Given → List Rule
-rules g =
+-- the codes on a plan with constraints of the kinds 1 to `kinds`, and their rules, in the order in which they are checked
+abbrev pub planRules : ℕ → Given → List Rule
+planRules kinds g =
     (1 asks RegionsFit g)
     ∷ (2 asks SectorsFit g)
     ∷ (3 asks WorkloadsFit g)
@@ -119,10 +117,47 @@ rules g =
     ∷ (5 asks EdgesFit g)
     ∷ (13 asks (CountsFit g × VisitsFit g))
     ∷ (6 asks ConstraintCountFits g)
-    ∷ (7 asks ConstraintsFit g)
+    ∷ (7 asks ConstraintsFit kinds g)
     ∷ (8 asks ColouringFits g)
-    ∷ (9 asks MovesFit g)
+    ∷ []
+
+-- those on the moves and on the room that is lent
+abbrev pub roomRules : Given → List Rule
+roomRules g =
+    (9 asks MovesFit g)
     ∷ (10 asks RowsFit g)
     ∷ (11 asks VerdictsFit g)
     ∷ (12 asks WorkFits g)
     ∷ []
+
+-- all of the call's
+abbrev pub rules : Given → List Rule
+rules g = planRules mostKind g ++ roomRules g
+
+-- ---- places
+
+-- code 3: none for a list not R long, else the first workload that is too large
+abbrev pub WorkloadPlace : Given → ℕ → Type 0
+WorkloadPlace g = ListPlace (length (g .workloads) ≡ g .R) (length (g .workloads)) (λ k. getD (g .workloads) k 0 ≤ mostWorkload)
+
+-- code 14: none for a list not R long, else the first outside area that is too large
+abbrev pub OutsidePlace : Given → ℕ → Type 0
+OutsidePlace g = ListPlace (length (g .outside) ≡ g .R) (length (g .outside)) (λ k. getD (g .outside) k 0 ≤ mostArea)
+
+-- code 5: the first edge against its rules
+abbrev pub EdgePlace : Given → ℕ → Type 0
+EdgePlace g = First (length (g .edges) / edgeLength) (EdgeRules (g .R) (g .edges))
+
+-- code 13: none for more than 64 flights, else the first flight with a wrong count; then none for a visit list not twice their sum long, else the first flight with a wrong visit
+abbrev pub FlightPlace : Given → ℕ → Type 0
+FlightPlace g place =
+    ListPlace (length (g .counts) ≤ mostFlights) (length (g .counts)) (λ k. In mostVisits (getD (g .counts) k 0)) place
+    ⊎ (CountsFit g × ListPlace (length (g .visits) ≡ visitLength * sum (g .counts) (λ n. n)) (length (g .counts)) (FlightRules (g .R) (g .counts) (g .visits)) place)
+
+-- code 7: the first constraint against its rules
+abbrev pub ConstraintPlace : ℕ → Given → ℕ → Type 0
+ConstraintPlace kinds g = First (length (g .constraints) / constraintLength) (ConstraintRules kinds (g .constraints))
+
+-- code 8: none for a list not R long, else the first sector outside 1..S
+abbrev pub SectorPlace : Given → ℕ → Type 0
+SectorPlace g = ListPlace (length (g .colouring) ≡ g .R) (length (g .colouring)) (λ k. In (g .S) (getD (g .colouring) k 0))

@@ -1,4 +1,4 @@
--- A table of refusals in groups, the rows of one code each, beside the rules that the codes stand for: when each code is given, and by which rows.
+-- A table of refusals in groups, the rows of one code each, beside the rules that the codes stand for: when each code is given, and with which place.
 -- Assumes nothing.
 use Prim.Native.Nat.{ℕ}
 use mathlib.Core.Path.{_≡_, refl, sym, _∙_}
@@ -17,6 +17,11 @@ use Rattle.refusals.specs.Passed.{Passed, both}
 pub record Rule : Type 1 where
   pub code : ℕ
   pub Holds : Type 0
+
+-- such a rule, as its code asks for it
+infix 6 _asks_
+abbrev pub _asks_ : ℕ → Type 0 → Rule
+code asks Holds = record { code = code; Holds = Holds }
 
 -- all of these rules hold
 abbrev pub All : List Rule → Type 0
@@ -47,6 +52,16 @@ once c (A ∷ As) = cond (eqb (A .code) c) (absent c As) (once c As)
 abbrev pub Among : ℕ → List Rule → Type 0
 Among c [] = ⊥
 Among c (A ∷ As) = (c ≡ A .code) ⊎ Among c As
+
+-- the rules, checked in their order, give this code: that of the first that does not hold, or 0 where all hold
+abbrev pub Told : List Rule → ℕ → Type 0
+Told [] c = c ≡ 0
+Told (A ∷ As) c = (A .Holds × Told As c) ⊎ ((A .Holds → ⊥) × (c ≡ A .code))
+
+-- a code is given exactly when what is checked before it holds and its own rule does not, and then with a place that is so
+pub record Due (given : Refusal) (code : ℕ) (Before Rule : Type 0) (Place : ℕ → Type 0) : Type 0 where
+  pub exactly : given .code ≡ code ↔ Before × (Rule → ⊥)
+  pub place : given .code ≡ code → Place (given .place)
 
 -- the rows of all groups, in order
 abbrev pub inOrder : List (List Row) → List Row
@@ -119,79 +134,71 @@ first-or-others g gs Q f h = go (passed-dec g)
     go (yes p) = rw (passed-on g (inOrder gs) p) (h p)
     go (no n) = rw (caught g (inOrder gs) n) (f n)
 
--- what is given is 0 or the code of a rule
-pub code-among : (gs : List (List Row)) (As : List Rule) → Stand gs As → (refusal (inOrder gs) .code ≡ 0) ⊎ Among (refusal (inOrder gs) .code) As
+-- where each group says what its rule does, the rules give the code that the rows do
+pub rows-told : (gs : List (List Row)) (As : List Rule) → Stand gs As → Told As (refusal (inOrder gs) .code)
 unfolding refusal
-code-among [] [] s = inl refl
-code-among (g ∷ gs) (A ∷ As) s =
-    first-or-others g gs (λ f. (f .code ≡ 0) ⊎ Among (f .code) (A ∷ As))
-    (λ n. inr (inl (caught-code (A .code) g (s .0 .0) n)))
-    (λ p. ⊎-elim inl (λ m. inr (inr m)) (code-among gs As (s .1)))
+rows-told [] [] s = refl
+rows-told (g ∷ gs) (A ∷ As) s =
+    first-or-others g gs (λ f. Told (A ∷ As) (f .code))
+    (λ n. inr (λ a. n (s .0 .1 .1 a), caught-code (A .code) g (s .0 .0) n))
+    (λ p. inl (s .0 .1 .0 p, rows-told gs As (s .1)))
 
--- a code of no rule is not given
-code-absent : (c : ℕ) (gs : List (List Row)) (As : List Rule) → c ≢ 0 → Stand gs As → T (absent c As) → refusal (inOrder gs) .code ≢ c
-code-absent c gs As z s t e = ⊎-elim (λ n. z (sym e ∙ n)) (λ m. none As t (rw e at m)) (code-among gs As s)
-  where
-    none : (As : List Rule) → T (absent c As) → Among c As → ⊥
-    none (A ∷ As) t (inl n) =
-        T-not (eqb (A .code) c) (both (not (eqb (A .code) c)) (absent c As) t .0) (rw n (eqb-refl (A .code)))
-    none (A ∷ As) t (inr m) = none As (both (not (eqb (A .code) c)) (absent c As) t .1) m
+-- ---- what the rules give
 
-module _ (g : List Row) (gs : List (List Row)) (A : Rule) (As : List Rule) (s : Stand (g ∷ gs) (A ∷ As)) where
-  -- a code other than the first rule's is given exactly when the first rule holds and the others give it
-  other-given : (c : ℕ) → A .code ≢ c → refusal (inOrder (g ∷ gs)) .code ≡ c ↔ A .Holds × (refusal (inOrder gs) .code ≡ c)
-  other-given c ne = (
-    first-or-others g gs (λ f. f .code ≡ c → A .Holds × (refusal (inOrder gs) .code ≡ c))
-        (λ n e. absurd (ne (sym (caught-code (A .code) g (s .0 .0) n) ∙ e)))
-        (λ p e. (s .0 .1 .0 p, e)),
-    λ q. rw (passed-on g (inOrder gs) (s .0 .1 .1 (q .0))) (q .1),
-  )
+-- where no rule has code c, the first does not, nor do the others
+other-code : (c : ℕ) (A : Rule) (As : List Rule) → T (absent c (A ∷ As)) → (A .code ≢ c) × T (absent c As)
+other-code c A As t =
+    let u = both (not (eqb (A .code) c)) (absent c As) t in
+    (λ e. T-not (eqb (A .code) c) (u .0) (rw e (eqb-refl c)), u .1)
 
-  -- the first rule's code, where no other rule has it, is given exactly when the rule does not hold
-  first-given : A .code ≢ 0 → T (absent (A .code) As) → refusal (inOrder (g ∷ gs)) .code ≡ A .code ↔ (A .Holds → ⊥)
-  first-given z t = (
-    λ e a. code-absent (A .code) gs As z (s .1) t (rw (passed-on g (inOrder gs) (s .0 .1 .1 a)) at e),
-    λ n. let m : (Passed g → ⊥) = λ p. n (s .0 .1 .0 p) in rw (caught g (inOrder gs) m) (caught-code (A .code) g (s .0 .0) m),
-  )
+-- what is given is 0 or the code of a rule
+pub told-among : {c : ℕ} (As : List Rule) → Told As c → (c ≡ 0) ⊎ Among c As
+told-among [] t = inl t
+told-among (A ∷ As) (inl (a, t)) = ⊎-elim inl (λ m. inr (inr m)) (told-among As t)
+told-among (A ∷ As) (inr (n, e)) = inr (inl e)
 
--- ---- the theorems
+-- a code that no rule has is among none
+pub among-absent : (c : ℕ) (As : List Rule) → T (absent c As) → Among c As → ⊥
+among-absent c (A ∷ As) t (inl e) = other-code c A As t .0 (sym e)
+among-absent c (A ∷ As) t (inr m) = among-absent c As (other-code c A As t .1) m
+
+-- and is not given
+told-absent : {c : ℕ} (As : List Rule) → T (absent c As) → c ≢ 0 → Told As c → ⊥
+told-absent {c} As t z r = ⊎-elim z (among-absent c As t) (told-among As r)
 
 -- code 0, which stands for no rule, is given exactly when all rules hold
-pub none-given : (gs : List (List Row)) (As : List Rule) → Stand gs As → T (absent 0 As) → refusal (inOrder gs) .code ≡ 0 ↔ All As
-unfolding refusal
-none-given [] [] s t = (λ e. tt, λ e. refl)
-none-given (g ∷ gs) (A ∷ As) s t =
-    let u = both (not (eqb (A .code) 0)) (absent 0 As) t in
-    let f = other-given g gs A As s 0 (λ e. T-not (eqb (A .code) 0) (u .0) (rw e tt)) in
-    let r = none-given gs As (s .1) (u .1) in
-    (λ e. let q = f .0 e in (q .0, r .0 (q .1)), λ q. f .1 (q .0, r .1 (q .1)))
+pub told-none : {c : ℕ} (As : List Rule) → T (absent 0 As) → Told As c → c ≡ 0 ↔ All As
+told-none [] t e = (λ z. tt, λ q. e)
+told-none (A ∷ As) t (inl (a, r)) = let f = told-none As (other-code 0 A As t .1) r in (λ z. (a, f .0 z), λ q. f .1 (q .1))
+told-none (A ∷ As) t (inr (n, e)) = (λ z. absurd (other-code 0 A As t .0 (sym e ∙ z)), λ q. absurd (n (q .0)))
 
 -- a code that one rule has is given exactly when the rules before it hold and its own does not
-pub code-given : (c : ℕ) (gs : List (List Row)) (As : List Rule) → c ≢ 0 → Stand gs As → T (once c As) → refusal (inOrder gs) .code ≡ c ↔ All (before c As) × (ruleOf c As → ⊥)
-code-given c [] [] z s t = absurd t
-code-given c (g ∷ gs) (A ∷ As) z s t = go (eqb (A .code) c) refl t (code-given c gs As z (s .1))
+pub told-code : (c : ℕ) {d : ℕ} (As : List Rule) → c ≢ 0 → T (once c As) → Told As d → d ≡ c ↔ All (before c As) × (ruleOf c As → ⊥)
+told-code c [] z t e = absurd t
+told-code c {d} (A ∷ As) z t e = go (eqb (A .code) c) refl t e (told-code c As z)
   where
-    go : (b : Bool) → eqb (A .code) c ≡ b → T (cond b (absent c As) (once c As)) → (T (once c As) → refusal (inOrder gs) .code ≡ c ↔ All (before c As) × (ruleOf c As → ⊥))
-        → refusal (inOrder (g ∷ gs)) .code ≡ c ↔ All (cond b [] (A ∷ before c As)) × (cond b (A .Holds) (ruleOf c As) → ⊥)
-    go true e t r =
-        let n = eqb-true (A .code) c e in
-        let f = first-given g gs A As s (λ k. z (sym n ∙ k)) (rw n t) in
-        (λ k. (tt, f .0 (k ∙ sym n)), λ q. f .1 (q .1) ∙ n)
-    go false e t r =
-        let f = other-given g gs A As s c (eqb-false (A .code) c e) in
-        (λ k. let q = f .0 k in let a = r t .0 (q .1) in ((q .0, a .0), a .1), λ q. f .1 (q .0 .0, r t .1 (q .0 .1, q .1)))
+    go : (b : Bool) → eqb (A .code) c ≡ b → T (cond b (absent c As) (once c As)) → Told (A ∷ As) d → (T (once c As) → Told As d → d ≡ c ↔ All (before c As) × (ruleOf c As → ⊥))
+        → d ≡ c ↔ All (cond b [] (A ∷ before c As)) × (cond b (A .Holds) (ruleOf c As) → ⊥)
+    go true e t (inl (a, r)) next = (λ k. absurd (told-absent As t z (rw k at r)), λ q. absurd (q .1 a))
+    go true e t (inr (n, k)) next = (λ _. (tt, n), λ _. k ∙ eqb-true (A .code) c e)
+    go false e t (inl (a, r)) next = let f = next t r in (λ k. let q = f .0 k in ((a, q .0), q .1), λ q. f .1 (q .0 .1, q .1))
+    go false e t (inr (n, k)) next = (λ m. absurd (eqb-false (A .code) c e (sym k ∙ m)), λ q. absurd (n (q .0 .0)))
 
--- where such a code is given, what is refused is what the rows of its group refuse
-pub given-by : (c : ℕ) (gs : List (List Row)) (As : List Rule) → c ≢ 0 → Stand gs As → T (once c As) → refusal (inOrder gs) .code ≡ c → refusal (inOrder gs) ≡ refusal (groupOf c gs As)
-given-by c [] [] z s t = absurd t
-given-by c (g ∷ gs) (A ∷ As) z s t = go (eqb (A .code) c) refl t (given-by c gs As z (s .1))
+-- ---- what the rows give
+
+-- where the rules before that of a code hold and its own does not, what is refused is what the rows of its group refuse
+given-by : (c : ℕ) (gs : List (List Row)) (As : List Rule) → Stand gs As → T (once c As) → All (before c As) × (ruleOf c As → ⊥) → refusal (inOrder gs) ≡ refusal (groupOf c gs As)
+given-by c [] [] s t = absurd t
+given-by c (g ∷ gs) (A ∷ As) s t = go (eqb (A .code) c) t (given-by c gs As (s .1))
   where
-    go : (b : Bool) → eqb (A .code) c ≡ b → T (cond b (absent c As) (once c As)) → (T (once c As) → refusal (inOrder gs) .code ≡ c → refusal (inOrder gs) ≡ refusal (groupOf c gs As))
-        → refusal (inOrder (g ∷ gs)) .code ≡ c → refusal (inOrder (g ∷ gs)) ≡ refusal (cond b g (groupOf c gs As))
-    go true e t r k =
-        let n = eqb-true (A .code) c e in
-        let f = first-given g gs A As s (λ m. z (sym n ∙ m)) (rw n t) .0 (k ∙ sym n) in
-        caught g (inOrder gs) (λ p. f (s .0 .1 .0 p))
-    go false e t r k =
-        let q = other-given g gs A As s c (eqb-false (A .code) c e) .0 k in
-        passed-on g (inOrder gs) (s .0 .1 .1 (q .0)) ∙ r t (q .1)
+    go : (b : Bool) → T (cond b (absent c As) (once c As)) → (T (once c As) → All (before c As) × (ruleOf c As → ⊥) → refusal (inOrder gs) ≡ refusal (groupOf c gs As))
+        → All (cond b [] (A ∷ before c As)) × (cond b (A .Holds) (ruleOf c As) → ⊥) → refusal (inOrder (g ∷ gs)) ≡ refusal (cond b g (groupOf c gs As))
+    go true t next q = caught g (inOrder gs) (λ p. q .1 (s .0 .1 .0 p))
+    go false t next q = passed-on g (inOrder gs) (s .0 .1 .1 (q .0 .0)) ∙ next t (q .0 .1, q .1)
+
+-- a code that one rule has is due as `Due` says, with the place that its own rows name where its rule does not hold
+pub due : (c : ℕ) (gs : List (List Row)) (As : List Rule) → c ≢ 0 → Stand gs As → T (once c As) → {Place : ℕ → Type 0} → ((ruleOf c As → ⊥) → Place (refusal (groupOf c gs As) .place))
+    → Due (refusal (inOrder gs)) c (All (before c As)) (ruleOf c As) Place
+due c gs As z s t f =
+    let exactly = told-code c As z t (rows-told gs As s) in
+    record { exactly = exactly; place = λ e. let q = exactly .0 e in rw (given-by c gs As s t q) (f (q .1)) }
