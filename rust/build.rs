@@ -1,17 +1,54 @@
-//! Links the proved archive `libscreen.a`, and has it proved and written where it is missing.
+//! Links the proved archive `libscreen.a`. It is never proved from here: that takes minutes, in which cargo shows nothing of what a
+//! build script says. Where the archive is missing, is none, or is older than a file that it is proved from, the build ends and
+//! names the command.
+//!
+//! Older goes by times of modification, as cargo's own rule does. `rt staticlib` writes the archive anew each time that it proves,
+//! and leaves the one before where it doesn't. Without `crates/` beside it, nothing is newer than the archive.
 
-use std::path::Path;
-use std::process::Command;
+use std::fs;
+use std::path::{Path, PathBuf};
+use std::time::SystemTime;
+
+const COMMAND: &str = "run `rt staticlib screen` in the repository first, and for the tests `rt check verdicts`";
 
 fn main() {
-    let root = Path::new(env!("CARGO_MANIFEST_DIR")).join("..");
+    let root = Path::new(env!("CARGO_MANIFEST_DIR")).parent().expect("the crate lies in the repository");
     let folder = root.join("target/staticlib");
     let archive = folder.join("libscreen.a");
-    if !archive.exists() {
-        let proved = Command::new("rt").args(["staticlib", "screen"]).current_dir(&root).status();
-        assert!(proved.is_ok_and(|s| s.success()), "`rt staticlib screen` wrote no archive");
+    let sources = [root.join("crates.txt"), root.join("crates")];
+    if let Err(fault) = held_to(&sources, &archive) {
+        println!("cargo::error={} {fault}: {COMMAND}", archive.display());
+        return;
     }
-    println!("cargo:rustc-link-search=native={}", folder.display());
-    println!("cargo:rustc-link-lib=static=screen");
-    println!("cargo:rerun-if-changed={}", archive.display());
+    println!("cargo::rustc-link-search=native={}", folder.display());
+    println!("cargo::rustc-link-lib=static=screen");
+    for looked_at in sources.iter().chain([&archive]) {
+        println!("cargo::rerun-if-changed={}", looked_at.display());
+    }
+}
+
+/// In words, what is wrong with the archive of these sources.
+fn held_to(sources: &[PathBuf], archive: &Path) -> Result<(), String> {
+    let (Ok(bytes), Some(proved)) = (fs::read(archive), modified(archive)) else { return Err("is missing".into()) };
+    let name = b"sctr_call\0";
+    if !bytes.starts_with(b"!<arch>\n") || !bytes.windows(name.len()).any(|part| part == name) {
+        return Err("is no archive with `sctr_call`".into());
+    }
+    match sources.iter().find_map(|path| changed_after(proved, path)) {
+        None => Ok(()),
+        Some(newer) => Err(format!("is older than {}", newer.display())),
+    }
+}
+
+/// A file here that the archive is proved from, and that was changed after this time.
+fn changed_after(time: SystemTime, path: &Path) -> Option<PathBuf> {
+    if path.is_dir() {
+        return fs::read_dir(path).ok()?.flatten().find_map(|entry| changed_after(time, &entry.path()));
+    }
+    let proved_from = path.extension().is_some_and(|ending| ["rt", "antt", "txt"].iter().any(|due| ending == *due));
+    (proved_from && modified(path)? > time).then(|| path.to_owned())
+}
+
+fn modified(path: &Path) -> Option<SystemTime> {
+    fs::metadata(path).ok()?.modified().ok()
 }
