@@ -22,11 +22,11 @@ head-flights sheet = (omega arith, (omega arith, omega arith))
 
 module _ (k : Contents) where
   -- what it carries has no flights
-  carried-flights : CountsFit (asGiven (carried First k)) × VisitsFit (asGiven (carried First k))
+  pub carried-flights : CountsFit (asGiven (carried First k)) × VisitsFit (asGiven (carried First k))
   carried-flights = ((omega arith, λ j h. absurd (omega arith)), (refl, λ j h. absurd (omega arith)))
 
   -- and zeros for outside areas
-  carried-outside : OutsideFits (asGiven (carried First k))
+  pub carried-outside : OutsideFits (asGiven (carried First k))
   carried-outside = (length-replicate {A = ℕ} (k .R) 0, small)
     where
       small : Each (length (noOutside (k .R))) (λ j. getD (noOutside (k .R)) j 0 ≤ mostArea)

@@ -21,6 +21,7 @@ pub mod SheetLaws
 pub mod SheetCodes
 pub mod FirstSheets
 pub mod Readings
+pub mod Judgings
 pub mod Writings
 pub mod Conversions
 pub mod Converted

@@ -13,15 +13,17 @@ use Rattle.refusals.specs.declared.Refusal.{Refusal}
 use Rattle.refusals.specs.Table.{Row, refused, none, whole, refusal, planTable}
 use Rattle.refusals.specs.Passed.{passed, passed-none}
 use Rattle.form.specs.declared.Form.{Form}
+use Rattle.form.specs.declared.Form.the-variants.{First}
 use Rattle.form.specs.Form.{kindCount, Contents}
 use Rattle.form.specs.Refusals.{contentsTable}
-use Rattle.writing.specs.Promise.{sheetBytes, writeRefusal, Outcome, refusedAnswer, outcome, Promise, is-outcome, left}
+use Rattle.writing.specs.Promise.{sheetBytes, writeRefusal, Outcome, refusedAnswer, outcome, Promise, is-outcome, plain, left}
 use Rattle.demands.specs.Tables.{Rule, _asks_, All, before, Among, inOrder, Stand, rows-told, told-among, told-none, due, Told}
 use Rattle.demands.specs.Tables as tables
 use Rattle.demands.specs.Rules.{RegionsFit, SectorsFit, WorkloadsFit, OutsideFits, EdgeCountFits, EdgesFit, CountsFit, VisitsFit, ConstraintCountFits, ConstraintsFit, ColouringFits, planRules, WorkloadPlace, OutsidePlace, EdgePlace, FlightPlace, ConstraintPlace, SectorPlace}
 use Rattle.demands.specs.RuleLaws.{at-most, whole-passes, alone, _then_, no-place}
 use Rattle.demands.specs.PlanCodes.{planGroups, groups-plan, plan-stand, due-1, due-2, due-3, due-14, due-4, due-5, due-13, due-6, due-7, due-8}
 use Rattle.demands.specs.SheetRules.{asGiven, BytesFit}
+use Rattle.demands.specs.FirstSheets.{carried-flights, carried-outside}
 
 -- the codes and their rules, in the order in which they are checked: the call's on a plan, with constraints of the sheet's kinds, then 40 for the lent bytes
 abbrev pub writeRules : Form → Contents → List ℕ → List Rule
@@ -144,3 +146,10 @@ module _ {f : Form} {k : Contents} {lent : List ℕ} {o : Outcome} (p : Promise 
   refused-writing ne =
       let r = as-refused ∙ sym (write-groups f k lent) in
       is-outcome p ∙ rw (r, ne-eqb _ 0 (λ e. ne (ap (λ (r : Refusal). r .code) r ∙ e)))
+
+-- writing a first sheet, which has no outside areas and no flights, gives neither 13 nor 14
+pub first-written : {R S : ℕ} {workloads edges constraints colouring lent : List ℕ} {o : Outcome} → Promise First (plain R S workloads edges constraints colouring) lent o
+    → (o .answer .code ≢ 13) × (o .answer .code ≢ 14)
+first-written {R} {S} {workloads} {edges} {constraints} {colouring} p =
+    let k = plain R S workloads edges constraints colouring in
+    (λ e. code-13 p .exactly .0 e .1 (carried-flights k), λ e. code-14 p .exactly .0 e .1 (carried-outside k))
