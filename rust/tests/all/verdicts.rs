@@ -9,6 +9,7 @@ use std::fs::OpenOptions;
 use std::io::Write;
 use std::path::Path;
 use std::process::{Command, Output, Stdio};
+use std::time::Duration;
 
 /// The program. Where the machine can't run it by itself, `QIRFADHUN_RUNNER` names the emulator that does.
 fn program() -> Command {
@@ -24,13 +25,20 @@ fn program() -> Command {
     }
 }
 
-/// What the program does on these bytes, with this standard output.
-fn run(sheet: &[u8], out: Stdio) -> Output {
+/// What the program does on these bytes, in so many pieces, each a while after the one before, and with this standard output.
+fn run(sheet: &[u8], pieces: usize, out: Stdio) -> Output {
     let started = program().stdin(Stdio::piped()).stdout(out).stderr(Stdio::piped()).spawn();
     let mut running = started.expect("the program starts");
-    let taken = running.stdin.take().expect("its input is open").write_all(sheet);
-    // It needn't take all of a sheet that is too long.
-    assert!(taken.is_ok() || sheet.len() > Form::of(sheet).blocks * BLOCK, "the program takes the sheet: {taken:?}");
+    let mut input = running.stdin.take().expect("its input is open");
+    for (number, piece) in sheet.chunks(sheet.len().div_ceil(pieces).max(1)).enumerate() {
+        if number > 0 {
+            std::thread::sleep(Duration::from_millis(100));
+        }
+        let taken = input.write_all(piece);
+        // It needn't take all of a sheet that is too long.
+        assert!(taken.is_ok() || sheet.len() > Form::of(sheet).blocks * BLOCK, "the program takes the sheet: {taken:?}");
+    }
+    drop(input);
     let output = running.wait_with_output().expect("the program ends");
     assert!(output.status.code().is_some(), "the program ends by itself: {}", output.status);
     output
@@ -38,7 +46,7 @@ fn run(sheet: &[u8], out: Stdio) -> Output {
 
 /// What the program prints for these bytes.
 fn printed(sheet: &[u8]) -> String {
-    let output = run(sheet, Stdio::piped());
+    let output = run(sheet, 1, Stdio::piped());
     assert_eq!(String::from_utf8_lossy(&output.stderr), "", "the text is written");
     String::from_utf8_lossy(&output.stdout).into_owned()
 }
@@ -105,10 +113,18 @@ fn stored_texts() {
     assert!(lengths.is_superset(&BTreeSet::from([SECOND.blocks, SECOND.blocks + 1])));
 }
 
+/// What is read at once is not all of it.
+#[test]
+fn a_sheet_in_three_pieces() {
+    let bytes = Sheet::a(&FIRST).bytes();
+    let output = run(&bytes, 3, Stdio::piped());
+    assert_eq!(String::from_utf8_lossy(&output.stdout), Verdicts::of(&bytes).text());
+}
+
 #[test]
 fn text_that_cannot_be_written() {
     let full = OpenOptions::new().write(true).open("/dev/full").expect("a device that takes nothing");
-    let output = run(&Sheet::a(&FIRST).bytes(), full.into());
+    let output = run(&Sheet::a(&FIRST).bytes(), 1, full.into());
     assert_eq!(String::from_utf8_lossy(&output.stderr), "verdicts: the text could not be written\n");
 }
 
