@@ -4,7 +4,8 @@
 //! `cargo run --example screen ../sheets/a.sheet`
 
 use qirfadhun::limits::{MOST_CONSTRAINTS, MOST_EDGES, MOST_FLIGHTS, MOST_REGIONS, MOST_VISITS_IN_ALL};
-use qirfadhun::{Constraint, Refusal, Sheet};
+use qirfadhun::lists::{Constraint, Sheet};
+use qirfadhun::Refusal;
 use std::process::ExitCode;
 
 fn main() -> ExitCode {
@@ -62,7 +63,7 @@ impl Plan {
             constraints: vec![0; 4 * MOST_CONSTRAINTS],
             colouring: vec![0; MOST_REGIONS],
         };
-        let head = qirfadhun::read(
+        let head = qirfadhun::lists::read(
             bytes,
             &mut plan.workloads,
             &mut plan.outside,
@@ -143,7 +144,7 @@ fn send_flight(plan: &Plan) -> Result<(), Refusal> {
     let dwell = Constraint { kind: 5, relation: 6, limit: 120, weight: 1 };
     let probe = [1, b, plan.sector(a)];
     let (mut row, mut verdict) = ([0; 4], [0; 2]);
-    qirfadhun::call_records(
+    qirfadhun::lists::call_records(
         plan.regions,
         plan.sectors,
         &plan.workloads,
@@ -173,7 +174,7 @@ fn try_moves(plan: &mut Plan) -> Result<(), Refusal> {
     let mut rows = [0; 4 * 6];
     let mut verdicts = vec![0; plan.constraints.len() / 2];
     let mut work = plan.work();
-    qirfadhun::call(
+    qirfadhun::lists::call(
         plan.regions,
         plan.sectors,
         &plan.workloads,

@@ -9,7 +9,7 @@
 //!
 //! ```
 //! let bytes = std::fs::read("../sheets/a.sheet")?;
-//! let sheet = qirfadhun::Sheet::new(&bytes)?;
+//! let sheet = qirfadhun::lists::Sheet::new(&bytes)?;
 //! for place in 1..=sheet.constraints() {
 //!     println!("constraint {place}: holds {}, violation {}", sheet.holds(place), sheet.violation(place));
 //! }
@@ -17,31 +17,14 @@
 //! # Ok::<(), Box<dyn std::error::Error>>(())
 //! ```
 
+#![deny(missing_docs)]
+
 #[cfg(doctest)]
 #[doc = include_str!("../../README.md")]
 struct Readme;
 
-mod call;
-mod converting;
 pub mod limits;
-mod raw;
-mod sheet;
-mod storing;
-
-pub use call::{call, call_records, Totals};
-pub use converting::{to_first, to_second};
-pub use sheet::Sheet;
-pub use storing::{read, write, write_records, write_second, Head};
-
-/// A constraint as a record; the list of four numbers has them in the same order.
-#[repr(C)]
-#[derive(Clone, Copy, Debug, PartialEq, Eq)]
-pub struct Constraint {
-    pub kind: u64,
-    pub relation: u64,
-    pub limit: u64,
-    pub weight: u64,
-}
+pub mod lists;
 
 /// Why a call is refused: the code, and the place that goes with it, or 0 where the code names none.
 ///
@@ -49,7 +32,9 @@ pub struct Constraint {
 /// the rule that the sheet's numbers are against.
 #[derive(Clone, Copy, Debug, PartialEq, Eq)]
 pub struct Refusal {
+    /// The code.
     pub code: u64,
+    /// The place that goes with it, or 0.
     pub place: u64,
 }
 
@@ -60,11 +45,3 @@ impl std::fmt::Display for Refusal {
 }
 
 impl std::error::Error for Refusal {}
-
-/// What was asked for, unless the code says that it is refused.
-fn unless_refused<T>(code: u64, place: u64, asked_for: T) -> Result<T, Refusal> {
-    match code {
-        0 => Ok(asked_for),
-        code => Err(Refusal { code, place }),
-    }
-}

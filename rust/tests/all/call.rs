@@ -1,4 +1,4 @@
-//! `qirfadhun::call` compared with the reference: code, place, totals, and all memory in and around what is lent.
+//! `qirfadhun::lists::call` compared with the reference: code, place, totals, and all memory in and around what is lent.
 
 use crate::calls::{by_reference, compare, Answer, Call, Memory};
 use crate::cases::{all_cases, random_cases, shrink, Case, Code};

@@ -1,4 +1,4 @@
-//! `qirfadhun::to_second` and `qirfadhun::to_first` compared with the reference: code, place, bytes written, and all memory in and
+//! `qirfadhun::lists::to_second` and `qirfadhun::lists::to_first` compared with the reference: code, place, bytes written, and all memory in and
 //! around what is lent; and what is the same of a sheet and its conversion. Sheets whose bytes are damaged are in `damage`.
 
 use crate::calls::{self, Call};

@@ -1,4 +1,4 @@
-//! `qirfadhun::read` and the questions to a `qirfadhun::Sheet` compared with the reference, for sheets of either form: all that is
+//! `qirfadhun::lists::read` and the questions to a `qirfadhun::lists::Sheet` compared with the reference, for sheets of either form: all that is
 //! answered, and all memory in and around what is lent. Sheets whose bytes are damaged are in `damage`.
 
 use crate::cases::{all_cases, random_cases, shrink, Case, Code};

@@ -1,4 +1,4 @@
-//! `qirfadhun::write` and `qirfadhun::write_second` compared with the reference: code, place, bytes written, and all memory in and
+//! `qirfadhun::lists::write` and `qirfadhun::lists::write_second` compared with the reference: code, place, bytes written, and all memory in and
 //! around what is lent. What is read and then written is the same sheet.
 
 use crate::cases::{all_cases, random_cases, shrink, Case, Code};

@@ -60,7 +60,7 @@ fn same_method(plan: &Plan, moves: &[u64], left: &mut Left) {
 }
 
 fn proved(plan: &Plan, moves: &[u64], left: &mut Left) {
-    let answer = qirfadhun::call(
+    let answer = qirfadhun::lists::call(
         plan.regions,
         plan.sectors,
         &plan.workloads,
@@ -105,11 +105,7 @@ fn print_head(plans: &str) {
 
 fn print(name: &str, unit: &str, times: [f64; 3], moves: usize) {
     let [baseline, same, proved] = times.map(|t| t / moves.max(1) as f64);
-    println!(
-        "| {name} | {baseline:.0} | {same:.0} | {proved:.0} {unit} | {:.2} | {:.2} |",
-        proved / baseline,
-        proved / same
-    );
+    println!("| {name} | {baseline:.0} | {same:.0} | {proved:.0} {unit} | {:.2} | {:.2} |", proved / baseline, proved / same);
 }
 
 fn main() {

@@ -42,7 +42,8 @@ fn plain_read(sheet: &[u8], read: &mut Read) {
 
 fn proved_read(sheet: &[u8], read: &mut Read) {
     let Plan { workloads, outside, edges, counts, visits, constraints, colouring, .. } = &mut read.plan;
-    let head = qirfadhun::read(sheet, workloads, outside, edges, counts, visits, constraints, colouring).expect("a good sheet");
+    let head =
+        qirfadhun::lists::read(sheet, workloads, outside, edges, counts, visits, constraints, colouring).expect("a good sheet");
     read.head = [head.regions, head.sectors, head.edges, head.constraints, head.flights, head.visits];
     (read.plan.regions, read.plan.sectors) = (head.regions, head.sectors);
 }
@@ -68,7 +69,7 @@ fn plain_write(plan: &Plan, sheet: &mut [u8; MOST_BYTES]) {
 
 fn proved_write(plan: &Plan, sheet: &mut [u8; MOST_BYTES]) {
     let Plan { regions, sectors, workloads, edges, constraints, colouring, .. } = plan;
-    let bytes = qirfadhun::write(*regions, *sectors, workloads, edges, constraints, colouring, sheet);
+    let bytes = qirfadhun::lists::write(*regions, *sectors, workloads, edges, constraints, colouring, sheet);
     assert_eq!(bytes, Ok(LARGEST.len()));
 }
 
@@ -78,8 +79,18 @@ fn plain_write_second(plan: &Plan, sheet: &mut [u8; MOST_SECOND_BYTES]) {
 
 fn proved_write_second(plan: &Plan, sheet: &mut [u8; MOST_SECOND_BYTES]) {
     let Plan { regions, sectors, workloads, outside, edges, counts, visits, constraints, colouring } = plan;
-    let bytes =
-        qirfadhun::write_second(*regions, *sectors, workloads, outside, edges, counts, visits, constraints, colouring, sheet);
+    let bytes = qirfadhun::lists::write_second(
+        *regions,
+        *sectors,
+        workloads,
+        outside,
+        edges,
+        counts,
+        visits,
+        constraints,
+        colouring,
+        sheet,
+    );
     assert_eq!(bytes, Ok(LARGEST_SECOND.len()));
 }
 
@@ -88,7 +99,7 @@ fn plain_to_second(sheet: &[u8], converted: &mut [u8; MOST_SECOND_BYTES]) {
 }
 
 fn proved_to_second(sheet: &[u8], converted: &mut [u8; MOST_SECOND_BYTES]) {
-    assert!(qirfadhun::to_second(sheet, converted).is_ok());
+    assert!(qirfadhun::lists::to_second(sheet, converted).is_ok());
 }
 
 fn plain_to_first(sheet: &[u8], converted: &mut [u8; MOST_BYTES]) {
@@ -96,7 +107,7 @@ fn plain_to_first(sheet: &[u8], converted: &mut [u8; MOST_BYTES]) {
 }
 
 fn proved_to_first(sheet: &[u8], converted: &mut [u8; MOST_BYTES]) {
-    assert!(qirfadhun::to_first(sheet, converted).is_ok());
+    assert!(qirfadhun::lists::to_first(sheet, converted).is_ok());
 }
 
 /// The shortest time, in nanoseconds, of each of the two, which must leave the same in what is lent to them.
@@ -133,7 +144,7 @@ pub fn print_all() {
     print("the second written", second, measure(&plan_in(second), no_second_bytes, [plain_write_second, proved_write_second]));
     print("the first to a second", first, measure(first, no_second_bytes, [plain_to_second, proved_to_second]));
     let mut lent = no_second_bytes();
-    let bytes = qirfadhun::to_second(first, &mut lent).expect("a good sheet");
+    let bytes = qirfadhun::lists::to_second(first, &mut lent).expect("a good sheet");
     let back = black_box(&lent[..bytes]);
     print("and back", back, measure(back, no_bytes, [plain_to_first, proved_to_first]));
 }

@@ -1,6 +1,8 @@
 //! What is under test: the safe functions, and the archive's own, of whose answers the safe ones pass on only a part.
 
-pub use qirfadhun::{call, call_records, read, to_first, to_second, write, write_records, write_second, Constraint, Sheet};
+pub use qirfadhun::lists::{
+    call, call_records, read, to_first, to_second, write, write_records, write_second, Constraint, Sheet,
+};
 
-#[path = "../../../src/raw.rs"]
+#[path = "../../../src/lists/raw.rs"]
 pub mod raw;

@@ -1,20 +1,27 @@
 //! A sheet into lists, and lists into a sheet.
 
-use crate::{raw, unless_refused, Constraint, Refusal};
+use super::{raw, unless_refused, Constraint};
+use crate::Refusal;
 
 /// How many regions, sectors, edges, constraints, flights and visits a sheet has; a first sheet has no flights and no visits.
 #[derive(Clone, Copy, Debug, PartialEq, Eq)]
 pub struct Head {
+    /// How many regions.
     pub regions: u64,
+    /// How many sectors.
     pub sectors: u64,
+    /// How many edges.
     pub edges: u64,
+    /// How many constraints.
     pub constraints: u64,
+    /// How many flights.
     pub flights: u64,
+    /// How many visits, those of all flights.
     pub visits: u64,
 }
 
 /// Reads either sheet, by its letters: from their starts the lent lists hold a workload and an outside area a region, three numbers
-/// an edge, a count a flight, two numbers a visit, four a constraint, and the colouring, as [`call`](fn@crate::call) takes them.
+/// an edge, a count a flight, two numbers a visit, four a constraint, and the colouring, as [`call`](fn@super::call) takes them.
 /// What lies beyond stays as it was. For a first sheet each outside area is 0, and there are no flights.
 ///
 /// ```
@@ -24,7 +31,7 @@ pub struct Head {
 /// let (mut workloads, mut outside, mut edges) = ([0; MOST_REGIONS], [0; MOST_REGIONS], [0; 3 * MOST_EDGES]);
 /// let (mut counts, mut visits) = ([0; MOST_FLIGHTS], [0; 2 * MOST_VISITS_IN_ALL]);
 /// let (mut constraints, mut colouring) = ([0; 4 * MOST_CONSTRAINTS], [0; MOST_REGIONS]);
-/// let head = qirfadhun::read(
+/// let head = qirfadhun::lists::read(
 ///     &bytes,
 ///     &mut workloads,
 ///     &mut outside,
@@ -45,6 +52,10 @@ pub struct Head {
 /// assert_eq!(colouring[..5], [1, 1, 1, 2, 2]);
 /// # Ok::<(), Box<dyn std::error::Error>>(())
 /// ```
+///
+/// # Errors
+///
+/// 31 to 39, the first that is given; then no lent memory has changed.
 #[allow(clippy::too_many_arguments)]
 pub fn read(
     sheet: &[u8],
@@ -92,14 +103,18 @@ pub fn bytes_written(answer: raw::WriteAnswer) -> Result<usize, Refusal> {
 ///
 /// ```
 /// let mut lent = [0; qirfadhun::limits::MOST_BYTES];
-/// let bytes = qirfadhun::write(1, 64, &[0], &[], &[4, 6, 1, 1], &[1], &mut lent)?;
+/// let bytes = qirfadhun::lists::write(1, 64, &[0], &[], &[4, 6, 1, 1], &[1], &mut lent)?;
 /// assert_eq!(bytes, 4 * 512);
-/// assert_eq!(qirfadhun::Sheet::new(&lent[..bytes])?.total(), 64);
+/// assert_eq!(qirfadhun::lists::Sheet::new(&lent[..bytes])?.total(), 64);
 ///
-/// let refusal = qirfadhun::write(1, 64, &[1_000_001], &[], &[4, 6, 1, 1], &[1], &mut lent).unwrap_err();
+/// let refusal = qirfadhun::lists::write(1, 64, &[1_000_001], &[], &[4, 6, 1, 1], &[1], &mut lent).unwrap_err();
 /// assert_eq!((refusal.code, refusal.place), (3, 1)); // the first workload is too large
 /// # Ok::<(), qirfadhun::Refusal>(())
 /// ```
+///
+/// # Errors
+///
+/// 1 to 8 but for the outside areas and flights, then 40; then no lent memory has changed.
 pub fn write(
     regions: u64,
     sectors: u64,
@@ -131,13 +146,17 @@ pub fn write(
 /// [`write`](fn@write), with the constraints as records; the same in all else.
 ///
 /// ```
-/// let bounded = qirfadhun::Constraint { kind: 4, relation: 6, limit: 1, weight: 1 };
+/// let bounded = qirfadhun::lists::Constraint { kind: 4, relation: 6, limit: 1, weight: 1 };
 /// let (mut by_records, mut by_numbers) = ([0; 4 * 512], [0; 4 * 512]);
-/// qirfadhun::write_records(1, 64, &[0], &[], &[bounded], &[1], &mut by_records)?;
-/// qirfadhun::write(1, 64, &[0], &[], &[4, 6, 1, 1], &[1], &mut by_numbers)?;
+/// qirfadhun::lists::write_records(1, 64, &[0], &[], &[bounded], &[1], &mut by_records)?;
+/// qirfadhun::lists::write(1, 64, &[0], &[], &[4, 6, 1, 1], &[1], &mut by_numbers)?;
 /// assert_eq!(by_records, by_numbers);
 /// # Ok::<(), qirfadhun::Refusal>(())
 /// ```
+///
+/// # Errors
+///
+/// As [`write`](fn@write).
 pub fn write_records(
     regions: u64,
     sectors: u64,
@@ -171,7 +190,7 @@ pub fn write_records(
 ///
 /// ```
 /// let mut lent = [0; qirfadhun::limits::MOST_SECOND_BYTES];
-/// let bytes = qirfadhun::write_second(
+/// let bytes = qirfadhun::lists::write_second(
 ///     2,
 ///     2,
 ///     &[60, 40],
@@ -184,14 +203,18 @@ pub fn write_records(
 ///     &mut lent,
 /// )?;
 /// assert_eq!(bytes, 8 * 512);
-/// let sheet = qirfadhun::Sheet::new(&lent[..bytes])?;
+/// let sheet = qirfadhun::lists::Sheet::new(&lent[..bytes])?;
 /// assert_eq!((sheet.violation(1), sheet.violation(2)), (1, 40)); // a border of 9, above 8; a stretch of 80 seconds, below 120
 ///
 /// let constraint = [4, 6, 1, 1];
-/// let refusal = qirfadhun::write_second(1, 1, &[0], &[], &[], &[], &[], &constraint, &[1], &mut lent).unwrap_err();
+/// let refusal = qirfadhun::lists::write_second(1, 1, &[0], &[], &[], &[], &[], &constraint, &[1], &mut lent).unwrap_err();
 /// assert_eq!((refusal.code, refusal.place), (14, 0)); // there is no outside area for the region
 /// # Ok::<(), qirfadhun::Refusal>(())
 /// ```
+///
+/// # Errors
+///
+/// 1 to 8, 14 and 13 among them, then 40; then no lent memory has changed.
 #[allow(clippy::too_many_arguments)]
 pub fn write_second(
     regions: u64,

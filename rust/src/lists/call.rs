@@ -1,11 +1,14 @@
 //! The call that judges a colouring and takes moves.
 
-use crate::{raw, unless_refused, Constraint, Refusal};
+use super::{raw, unless_refused, Constraint};
+use crate::Refusal;
 
 /// The total before the moves and the total after them.
 #[derive(Clone, Copy, Debug, PartialEq, Eq)]
 pub struct Totals {
+    /// The total of the colouring that was lent.
     pub first: u64,
+    /// The total of the colouring that was left.
     pub last: u64,
 }
 
@@ -27,7 +30,7 @@ fn totals(answer: raw::CallAnswer) -> Result<Totals, Refusal> {
 /// ```
 /// let mut colouring = [1, 1, 1, 2, 2];
 /// let (mut rows, mut verdicts, mut work) = ([0; 4], [0; 8], [0; 10]);
-/// let totals = qirfadhun::call(
+/// let totals = qirfadhun::lists::call(
 ///     5,
 ///     2,
 ///     &[10, 20, 30, 25, 15],
@@ -47,6 +50,10 @@ fn totals(answer: raw::CallAnswer) -> Result<Totals, Refusal> {
 /// assert_eq!(rows, [0, 111, 126, 3]); // accepted; 111 more; 126 in all; 3 regions have a new label
 /// # Ok::<(), qirfadhun::Refusal>(())
 /// ```
+///
+/// # Errors
+///
+/// 1 to 14, the first that is given; then no lent memory has changed.
 #[allow(clippy::too_many_arguments)]
 pub fn call(
     regions: u64,
@@ -97,14 +104,14 @@ pub fn call(
 /// [`call`], with the constraints as records; the same in all else.
 ///
 /// ```
-/// use qirfadhun::Constraint;
+/// use qirfadhun::lists::Constraint;
 ///
 /// let connected = Constraint { kind: 1, relation: 3, limit: 2, weight: 100 };
 /// let border = Constraint { kind: 2, relation: 1, limit: 8, weight: 2 };
 /// let bounded = Constraint { kind: 4, relation: 1, limit: 55, weight: 3 };
 /// let dwell = Constraint { kind: 5, relation: 6, limit: 120, weight: 1 };
 /// let (mut colouring, mut verdicts) = ([1, 2, 2], [0; 8]);
-/// let totals = qirfadhun::call_records(
+/// let totals = qirfadhun::lists::call_records(
 ///     3,
 ///     2,
 ///     &[60, 20, 20],
@@ -125,6 +132,10 @@ pub fn call(
 /// assert_eq!(verdicts, [1, 0, 0, 2, 0, 5, 0, 30]);
 /// # Ok::<(), qirfadhun::Refusal>(())
 /// ```
+///
+/// # Errors
+///
+/// As [`call`].
 #[allow(clippy::too_many_arguments)]
 pub fn call_records(
     regions: u64,

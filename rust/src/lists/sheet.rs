@@ -1,6 +1,7 @@
 //! A sheet asked by its bytes alone.
 
-use crate::{raw, Refusal};
+use super::raw;
+use crate::Refusal;
 
 /// The bytes of either sheet, not refused, to be asked for its verdicts. Each question reads the bytes anew. The plan in a second
 /// sheet is judged with its outside areas and flights, the one in a first sheet without.
@@ -9,7 +10,7 @@ use crate::{raw, Refusal};
 /// [`violation`](Sheet::violation) 0; inside it, a constraint holds exactly when its violation is 0.
 ///
 /// ```
-/// use qirfadhun::Sheet;
+/// use qirfadhun::lists::Sheet;
 ///
 /// let mut bytes = std::fs::read("../sheets/a.sheet")?;
 /// let sheet = Sheet::new(&bytes)?;
@@ -20,7 +21,7 @@ use crate::{raw, Refusal};
 ///
 /// bytes[1030] = 9;
 /// let refusal = Sheet::new(&bytes).unwrap_err();
-/// assert_eq!(refusal.to_string(), "refused 33 2"); // the check of block 2
+/// assert_eq!((refusal.code, refusal.place), (33, 2)); // the check of block 2
 ///
 /// let flown = std::fs::read("../sheets/flights.sheet")?;
 /// let sheet = Sheet::new(&flown)?;
@@ -33,7 +34,11 @@ pub struct Sheet<'a> {
 }
 
 impl<'a> Sheet<'a> {
-    /// The sheet with these bytes, or why reading it into lists with enough room is refused.
+    /// The sheet with these bytes.
+    ///
+    /// # Errors
+    ///
+    /// 31 to 38, as reading it into lists with enough room.
     pub fn new(bytes: &'a [u8]) -> Result<Self, Refusal> {
         // SAFETY: the pointer and the length are those of one slice.
         match unsafe { raw::sctr_code(bytes.as_ptr(), bytes.len()) } {
@@ -44,24 +49,28 @@ impl<'a> Sheet<'a> {
     }
 
     /// The sum of weight times violation over all constraints.
+    #[must_use]
     pub fn total(&self) -> u64 {
         // SAFETY: as in `new`.
         unsafe { raw::sctr_total(self.bytes.as_ptr(), self.bytes.len()) }
     }
 
     /// How many constraints the sheet has.
+    #[must_use]
     pub fn constraints(&self) -> u64 {
         // SAFETY: as in `new`.
         unsafe { raw::sctr_constraints(self.bytes.as_ptr(), self.bytes.len()) }
     }
 
     /// Whether the constraint at this place, from 1, holds; false for a place outside the list.
+    #[must_use]
     pub fn holds(&self, place: u64) -> bool {
         // SAFETY: as in `new`.
         unsafe { raw::sctr_holds(self.bytes.as_ptr(), self.bytes.len(), place) == 1 }
     }
 
     /// The violation of the constraint at this place, from 1; 0 for a place outside the list.
+    #[must_use]
     pub fn violation(&self, place: u64) -> u64 {
         // SAFETY: as in `new`.
         unsafe { raw::sctr_violation(self.bytes.as_ptr(), self.bytes.len(), place) }
