@@ -1,21 +1,45 @@
 //! A safe face of the proved library that judges airspace sector plans and reads and writes the sheets they are stored in.
 //!
-//! No call has a premise: whatever is handed over, it ends, and answers either what was asked for or a [`Refusal`], after which
-//! nothing is changed.
-//!
-//! There are two sheets. The first has the letters SCTR in every block; it carries no outside areas and no flights, and holds
-//! constraints of the kinds 1 to 4 only. The second has the letters SCT2, and carries a whole plan. Either is read and asked by its
-//! letters, and converted to the other where that can hold it.
+//! A [`Plan`] has regions, sectors, edges, flights and constraints, and is checked once. A [`Board`] is a colouring of it under
+//! judgement: it takes moves and has the [`Verdict`] on each constraint, with the [`Reason`]s why it is broken.
 //!
 //! ```
-//! let bytes = std::fs::read("../sheets/a.sheet")?;
-//! let sheet = qirfadhun::lists::Sheet::new(&bytes)?;
-//! for place in 1..=sheet.constraints() {
-//!     println!("constraint {place}: holds {}, violation {}", sheet.holds(place), sheet.violation(place));
+//! let board = qirfadhun::Board::read(&std::fs::read("../sheets/a.sheet")?)?;
+//! for verdict in board.verdicts() {
+//!     println!("{verdict}");
+//!     for reason in verdict.reasons()? {
+//!         println!("    {reason}");
+//!     }
 //! }
-//! assert_eq!(sheet.total(), 15);
+//! assert_eq!(board.total(), 15);
 //! # Ok::<(), Box<dyn std::error::Error>>(())
 //! ```
+//!
+//! No call has a premise: whatever is handed over, it ends, without a panic, and answers either what was asked for or a
+//! [`Refusal`], after which nothing is changed. Every number comes from the proved calls; the reasons of a verdict are held to its
+//! proved violation. A thread with 512 KiB of stack has room for every call.
+//!
+//! A search proposes changes in lists, and the board answers with the difference that each would make to the total, or with a
+//! [`Row`] for each [`Move`]:
+//!
+//! ```
+//! use qirfadhun::{Board, Change};
+//!
+//! let mut board = Board::read(&std::fs::read("../sheets/grid-64.sheet")?)?;
+//! let plan = board.plan().clone();
+//! let changes = plan.regions().flat_map(|region| plan.sectors().map(move |sector| Change::Give(region, sector)));
+//! let (best, delta) = board.probe_all(changes).min_by_key(|&(_, delta)| delta).unwrap();
+//! let before = board.total() as i64;
+//! board.make(best)?;
+//! assert_eq!(board.total() as i64, before + delta);
+//! # Ok::<(), Box<dyn std::error::Error>>(())
+//! ```
+//!
+//! There are two sheets. The [first](Form::First) has the letters SCTR in every block; it carries no outside areas and no flights,
+//! and holds constraints of the kinds 1 to 4 only. The [second](Form::Second) has the letters SCT2, and carries a whole plan.
+//! Either is read by its letters.
+//!
+//! [`lists`] has the calls on flat lists of numbers that all this stands on.
 
 #![deny(missing_docs)]
 
@@ -23,25 +47,36 @@
 #[doc = include_str!("../../README.md")]
 struct Readme;
 
+mod board;
+mod builder;
+pub mod codes;
+mod colouring;
+mod constraint;
+mod form;
 pub mod limits;
 pub mod lists;
+mod moves;
+mod numbers;
+mod plan;
+mod reason;
+mod refusal;
+mod relation;
+mod sectors;
+mod stretches;
+mod verdict;
+mod work;
 
-/// Why a call is refused: the code, and the place that goes with it, or 0 where the code names none.
-///
-/// The place is that of the first offending item, from 1; for codes 32 to 36 the number of the block, from 0; for 37 the code of
-/// the rule that the sheet's numbers are against.
-#[derive(Clone, Copy, Debug, PartialEq, Eq)]
-pub struct Refusal {
-    /// The code.
-    pub code: u64,
-    /// The place that goes with it, or 0.
-    pub place: u64,
-}
-
-impl std::fmt::Display for Refusal {
-    fn fmt(&self, f: &mut std::fmt::Formatter<'_>) -> std::fmt::Result {
-        write!(f, "refused {} {}", self.code, self.place)
-    }
-}
-
-impl std::error::Error for Refusal {}
+pub use board::Board;
+pub use builder::PlanBuilder;
+pub use colouring::Colouring;
+pub use constraint::{Constraint, Kind};
+pub use form::Form;
+pub use moves::{Change, Deltas, Move, Row, Rows};
+pub use numbers::{Area, Flight, Place, Region, Seconds, Sector, Workload};
+pub use plan::{Edge, Plan};
+pub use reason::{Cause, Reason, Unexplained};
+pub use refusal::Refusal;
+pub use relation::{Relation, Side};
+pub use sectors::{Component, SectorFigures};
+pub use stretches::Stretch;
+pub use verdict::Verdict;

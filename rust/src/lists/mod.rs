@@ -1,10 +1,12 @@
 //! The calls on flat lists of numbers, for those who lend their own memory and count nanoseconds.
 //!
 //! Nothing here tells a workload from an area, or a verdict from its neighbour: two lists of one type can be exchanged, and a
-//! constraint is known by its place alone.
+//! constraint is known by its place alone. [`Plan`](crate::Plan) and [`Board`](crate::Board) make the same calls, and can't be
+//! handed the wrong list.
 
 mod call;
 mod converting;
+mod numbers;
 mod raw;
 mod sheet;
 mod storing;
@@ -12,6 +14,7 @@ mod storing;
 use crate::Refusal;
 pub use call::{call, call_records, Totals};
 pub use converting::{to_first, to_second};
+pub use numbers::Numbers;
 pub use sheet::Sheet;
 pub use storing::{read, write, write_records, write_second, Head};
 

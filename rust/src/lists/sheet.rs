@@ -8,6 +8,7 @@ use crate::Refusal;
 ///
 /// Constraints are known by their place in the list, from 1. For a place outside the list [`holds`](Sheet::holds) answers false and
 /// [`violation`](Sheet::violation) 0; inside it, a constraint holds exactly when its violation is 0.
+/// [`Board::read`](crate::Board::read) has the verdicts as values that can't be taken for each other's.
 ///
 /// ```
 /// use qirfadhun::lists::Sheet;

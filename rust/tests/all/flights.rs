@@ -179,7 +179,8 @@ fn the_first_sheet_holds_no_kind_5() {
         assert_eq!(asked(&plan, &[]).0[..2], [0, 0], "the call takes it");
         assert_eq!(written(&plan), [7, place as u64, 0]);
         assert_eq!(read(&plan), REFUSED_BY_7);
-        assert_eq!(library::Sheet::new(&Sheet::of(&FIRST, plan).bytes()).unwrap_err().to_string(), "refused 37 7");
+        let refusal = library::Sheet::new(&Sheet::of(&FIRST, plan).bytes()).unwrap_err();
+        assert_eq!((refusal.code, refusal.place), (37, 7));
     }
     // Before 8, after 5, and after another constraint that is refused.
     let mut plan = sheet_a();

@@ -9,7 +9,7 @@ pub struct Meaning<'a> {
     pub components: Vec<u64>,
     pub sums: Vec<u64>,
     pub border: u64,
-    stretches: Vec<&'a [Visit]>,
+    pub stretches: Vec<&'a [Visit]>,
 }
 
 /// Where the thing with this number, from 1, stands in its list.
@@ -141,7 +141,7 @@ fn stands(relation: u64, x: u64, t: u64) -> bool {
 }
 
 /// d(relation, x, t).
-fn distance(relation: u64, x: u64, t: u64) -> u64 {
+pub fn distance(relation: u64, x: u64, t: u64) -> u64 {
     match relation {
         1 => x.saturating_sub(t),
         2 => (x + 1).saturating_sub(t),

@@ -16,5 +16,7 @@ pub use call::call;
 pub use converting::{to_first, to_second};
 pub use form::{Form, FIRST, FORMS, SECOND};
 pub use limits::*;
+pub use meaning::{distance, Meaning};
+pub use plan::{Plan, Visit};
 pub use sheet::{lay_out, read, write, write_second};
 pub use verdicts::Verdicts;
