@@ -2,13 +2,14 @@
 //! a search that stops as soon as it knows, one running sum for each constraint, for each flight what it adds to the total. It is
 //! spared the refusals, the verdicts and the work memory.
 
-use crate::plans::{distance, Plan};
+use crate::plans::distance;
+use qirfadhun::lists::Numbers;
 
 fn excess(n: u32) -> u64 {
     n.saturating_sub(1) as u64
 }
 
-fn smallest_joined(plan: &Plan, sector_of: &[u8]) -> Vec<u16> {
+fn smallest_joined(plan: &Numbers, sector_of: &[u8]) -> Vec<u16> {
     fn root(parent: &mut [u16], mut v: usize) -> usize {
         while parent[v] as usize != v {
             parent[v] = parent[parent[v] as usize];
@@ -39,7 +40,7 @@ struct Flights {
 }
 
 impl Flights {
-    fn new(plan: &Plan) -> Self {
+    fn new(plan: &Numbers) -> Self {
         let four = |q: &[u64]| [q[0], q[1], q[2], q[3]];
         let timed: Vec<_> = plan.constraints.chunks(4).map(four).filter(|q| q[0] == 5).collect();
         let counts = if timed.is_empty() { &[] } else { &plan.counts[..] };
@@ -102,7 +103,7 @@ impl Flights {
 
 /// All that is kept of a colouring between two moves; regions and sectors are numbered from 1.
 struct Engine<'a> {
-    plan: &'a Plan,
+    plan: &'a Numbers,
     start: Vec<u32>,
     near: Vec<u16>,
     area: Vec<u32>,
@@ -125,7 +126,7 @@ struct Engine<'a> {
 }
 
 impl<'a> Engine<'a> {
-    fn new(plan: &'a Plan, colouring: &[u64]) -> Self {
+    fn new(plan: &'a Numbers, colouring: &[u64]) -> Self {
         let (regions, sectors) = (plan.regions as usize, plan.sectors as usize);
         let mut start = vec![0u32; regions + 2];
         for e in plan.edges.chunks(3) {
@@ -458,7 +459,7 @@ impl<'a> Engine<'a> {
 }
 
 /// Takes the moves in turn, writes their rows, and leaves the last colouring.
-pub fn call(plan: &Plan, colouring: &mut [u64], moves: &[u64], rows: &mut [i64]) {
+pub fn call(plan: &Numbers, colouring: &mut [u64], moves: &[u64], rows: &mut [i64]) {
     let mut engine = Engine::new(plan, colouring);
     for (m, row) in moves.chunks(3).zip(rows.chunks_mut(4)) {
         row.copy_from_slice(&engine.step(m[0], m[1] as usize, m[2]));

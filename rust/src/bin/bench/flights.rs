@@ -1,9 +1,10 @@
 //! Plans with as many flights as there can be: nanoseconds a move with one and with two constraints on them, and what flights cost
 //! that no constraint asks about.
 
-use crate::plans::{self, Plan, Random};
+use crate::plans::{self, Random};
 use crate::{measure, print, print_head, proved, run, LIST, RUNS};
 use qirfadhun::limits::{MOST_FLIGHTS, MOST_VISITS};
+use qirfadhun::lists::Numbers;
 
 const LISTS: [(&str, &[u64]); 3] = [("probes", &[1]), ("made moves", &[2]), ("questions", &[5])];
 
@@ -14,8 +15,8 @@ const TIMED: [([u64; 4], usize); 2] = [([5, 6, 120, 3], 15), ([5, 1, 1_800, 3], 
 /// A plan without flights, the same with flights, and lists of moves on both.
 struct Flown {
     sectors: u64,
-    none: Plan,
-    flown: Plan,
+    none: Numbers,
+    flown: Numbers,
     lists: Vec<(&'static str, Vec<u64>)>,
 }
 
@@ -30,7 +31,7 @@ impl Flown {
     }
 
     /// The plan with flights and so many constraints of kind 5.
-    fn timed(&self, count: usize) -> Plan {
+    fn timed(&self, count: usize) -> Numbers {
         let mut plan = self.flown.clone();
         for (constraint, place) in &TIMED[..count] {
             plan.constraints[4 * place..][..4].copy_from_slice(constraint);
@@ -40,7 +41,7 @@ impl Flown {
 }
 
 /// The shortest time, in nanoseconds, of the proved library on either plan, by turns.
-fn measure_both(plans: [&Plan; 2], moves: &[u64]) -> [f64; 2] {
+fn measure_both(plans: [&Numbers; 2], moves: &[u64]) -> [f64; 2] {
     let mut best = [f64::MAX; 2];
     for _ in 0..RUNS {
         let [one, other] = [0, 1].map(|which| run(proved, plans[which], moves, &mut best[which]));

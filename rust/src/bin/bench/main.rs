@@ -1,6 +1,8 @@
 //! Nanoseconds a move of the proved library, of the baseline and of the library's own method in plain Rust, on the same plans and
-//! lists, one after the other in one run, without flights and then with them. The rows of all three are compared. After them the
-//! reading, the writing and the conversion of sheets.
+//! lists, one after the other in one run, without flights and then with them. The rows of all three are compared. Between them the
+//! typed board beside the flat call, after them the reading, the writing and the conversion of sheets.
+//!
+//! `bench typed` prints the board's tables alone.
 
 mod baseline;
 mod flights;
@@ -9,8 +11,10 @@ mod plans;
 mod same_flights;
 mod same_method;
 mod sheets;
+mod typed;
 
-use plans::{Plan, Random};
+use plans::Random;
+use qirfadhun::lists::Numbers;
 use std::time::Instant;
 
 const LIST: usize = 4096;
@@ -32,15 +36,15 @@ struct Left {
     rows: Vec<i64>,
 }
 
-fn empty(plan: &Plan, moves: &[u64]) -> Left {
+fn empty(plan: &Numbers, moves: &[u64]) -> Left {
     Left { colouring: plan.colouring.clone(), rows: vec![0; moves.len() / 3 * 4] }
 }
 
-fn baseline(plan: &Plan, moves: &[u64], left: &mut Left) {
+fn baseline(plan: &Numbers, moves: &[u64], left: &mut Left) {
     baseline::call(plan, &mut left.colouring, moves, &mut left.rows);
 }
 
-fn same_method(plan: &Plan, moves: &[u64], left: &mut Left) {
+fn same_method(plan: &Numbers, moves: &[u64], left: &mut Left) {
     let answer = same_method::call(same_method::Call {
         regions: plan.regions,
         sectors: plan.sectors,
@@ -59,27 +63,13 @@ fn same_method(plan: &Plan, moves: &[u64], left: &mut Left) {
     assert!(answer.is_ok());
 }
 
-fn proved(plan: &Plan, moves: &[u64], left: &mut Left) {
-    let answer = qirfadhun::lists::call(
-        plan.regions,
-        plan.sectors,
-        &plan.workloads,
-        &plan.outside,
-        &plan.edges,
-        &plan.counts,
-        &plan.visits,
-        &plan.constraints,
-        &mut left.colouring,
-        moves,
-        &mut left.rows,
-        &mut [0; 32],
-        &mut [0; 641],
-    );
+fn proved(plan: &Numbers, moves: &[u64], left: &mut Left) {
+    let answer = plan.call_on(&mut left.colouring, moves, &mut left.rows, &mut [0; 32], &mut [0; 641]);
     assert!(answer.is_ok());
 }
 
 /// What a call leaves; `best` is the shortest time so far, in nanoseconds.
-fn run(call: fn(&Plan, &[u64], &mut Left), plan: &Plan, moves: &[u64], best: &mut f64) -> Left {
+fn run(call: fn(&Numbers, &[u64], &mut Left), plan: &Numbers, moves: &[u64], best: &mut f64) -> Left {
     let mut left = empty(plan, moves);
     let start = Instant::now();
     call(plan, moves, &mut left);
@@ -88,7 +78,7 @@ fn run(call: fn(&Plan, &[u64], &mut Left), plan: &Plan, moves: &[u64], best: &mu
 }
 
 /// The shortest time, in nanoseconds, of each of the three on one list.
-fn measure(plan: &Plan, moves: &[u64]) -> [f64; 3] {
+fn measure(plan: &Numbers, moves: &[u64]) -> [f64; 3] {
     let calls = [baseline, same_method, proved];
     let mut best = [f64::MAX; 3];
     for _ in 0..RUNS {
@@ -109,6 +99,9 @@ fn print(name: &str, unit: &str, times: [f64; 3], moves: usize) {
 }
 
 fn main() {
+    if std::env::args().nth(1).as_deref() == Some("typed") {
+        return typed::print_all();
+    }
     let mut random = Random(88172645463325252);
     print_head("512 regions, 16 constraints");
     for sectors in [64, 8, 2] {
@@ -130,6 +123,7 @@ fn main() {
         let name = format!("{} regions in {sectors} sectors, probes without the call's start", height * width);
         print(&name, "ns a move", times, LIST);
     }
+    typed::print_all();
     flights::print_all();
     sheets::print_all();
 }

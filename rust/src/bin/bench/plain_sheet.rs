@@ -1,8 +1,8 @@
 //! Either sheet read, written and converted in plain Rust: the same checks in the same order, each sum of a block's check reduced
 //! once.
 
-use crate::plans::Plan;
 use crate::same_method::{plan_refusal, Refused};
+use qirfadhun::lists::Numbers;
 
 const BLOCK: usize = 512;
 const PREFIX: usize = 10;
@@ -225,11 +225,12 @@ fn check(form: &Form, sheet: &[u8]) -> Result<(Head, Sections), Refused> {
 }
 
 /// Reads either sheet into the lists of a plan, from their starts.
-pub fn read(sheet: &[u8], plan: &mut Plan) -> Result<Head, Refused> {
+pub fn read(sheet: &[u8], plan: &mut Numbers) -> Result<Head, Refused> {
     let form = Form::of(sheet);
     let (head, all) = check(&form, sheet)?;
     let [regions, sectors, edges, constraints, flights, visits] = head;
-    let Plan { workloads, outside, edges: edge_numbers, counts, visits: visit_numbers, constraints: fours, colouring, .. } = plan;
+    let Numbers { workloads, outside, edges: edge_numbers, counts, visits: visit_numbers, constraints: fours, colouring, .. } =
+        plan;
     let rooms = [&workloads, &outside, &edge_numbers, &counts, &visit_numbers, &fours, &colouring].map(|list| list.len() as u64);
     let needed = [regions, regions, 3 * edges, flights, 2 * visits, 4 * constraints, regions];
     unless(rooms.iter().zip(needed).all(|(&room, needed)| room >= needed), 39, 0)?;
@@ -271,8 +272,8 @@ fn put_head(section: &Section, form: &Form, head: Head, sheet: &mut [u8]) {
 }
 
 /// Writes a plan's sheet to the start of the bytes; answers how many it has.
-pub fn write(form: &Form, plan: &Plan, sheet: &mut [u8]) -> Result<usize, Refused> {
-    let Plan { regions, sectors, workloads, outside, edges, counts, visits, constraints, colouring } = plan;
+pub fn write(form: &Form, plan: &Numbers, sheet: &mut [u8]) -> Result<usize, Refused> {
+    let Numbers { regions, sectors, workloads, outside, edges, counts, visits, constraints, colouring } = plan;
     let (some_outside, counts, visits) =
         if form.is_second() { (Some(&outside[..]), &counts[..], &visits[..]) } else { (None, &[][..], &[][..]) };
     plan_refusal(form.kinds, *regions, *sectors, workloads, some_outside, edges, counts, visits, constraints, colouring)?;

@@ -1,25 +1,11 @@
 //! What is measured on: grids of regions numbered at random, with faces to the outside along their rims, sectors grown from seeds,
 //! flights along their edges, and moves as a search proposes them.
 
-/// A plan and a colouring of it, as the call takes them.
-#[derive(Clone, PartialEq)]
-pub struct Plan {
-    pub regions: u64,
-    pub sectors: u64,
-    pub workloads: Vec<u64>,
-    pub outside: Vec<u64>,
-    pub edges: Vec<u64>,
-    pub counts: Vec<u64>,
-    pub visits: Vec<u64>,
-    pub constraints: Vec<u64>,
-    pub colouring: Vec<u64>,
-}
+use qirfadhun::lists::Numbers;
 
-impl Plan {
-    /// The ends of the edges, as indices.
-    fn ends(&self) -> impl Iterator<Item = (usize, usize)> + '_ {
-        self.edges.chunks(3).map(|e| (e[0] as usize - 1, e[1] as usize - 1))
-    }
+/// The ends of a plan's edges, as indices.
+fn ends(plan: &Numbers) -> impl Iterator<Item = (usize, usize)> + '_ {
+    plan.edges.chunks(3).map(|e| (e[0] as usize - 1, e[1] as usize - 1))
 }
 
 /// Random numbers that are the same in every run.
@@ -36,7 +22,7 @@ impl Random {
 
 /// A grid with diagonals: `height` times `width` regions, those at the rim with a face to the outside, no flights, and 16 constraints
 /// of the kinds 1 to 4.
-pub fn grid(random: &mut Random, height: usize, width: usize, sectors: u64) -> Plan {
+pub fn grid(random: &mut Random, height: usize, width: usize, sectors: u64) -> Numbers {
     let regions = height * width;
     let mut number: Vec<u64> = (1..=regions as u64).collect();
     for i in (1..regions).rev() {
@@ -57,7 +43,7 @@ pub fn grid(random: &mut Random, height: usize, width: usize, sectors: u64) -> P
         }
     }
     edges.sort();
-    let mut plan = Plan {
+    let mut plan = Numbers {
         regions: regions as u64,
         sectors,
         workloads: (0..regions).map(|_| random.below(1_000_001)).collect(),
@@ -82,8 +68,8 @@ fn constraint(k: u64, sectors: u64) -> [u64; 4] {
 }
 
 /// Each sector starts from a region of its own and takes in neighbours that have none.
-fn grow_sectors(random: &mut Random, plan: &mut Plan) {
-    let ends: Vec<_> = plan.ends().collect();
+fn grow_sectors(random: &mut Random, plan: &mut Numbers) {
+    let ends: Vec<_> = ends(plan).collect();
     let sector_of = &mut plan.colouring;
     for sector in 1..=plan.sectors {
         let seed = loop {
@@ -106,7 +92,7 @@ fn grow_sectors(random: &mut Random, plan: &mut Plan) {
 }
 
 /// Flights of so many visits each, which go along edges and not straight back, from 10 to 300 seconds a visit.
-pub fn fly(random: &mut Random, plan: &mut Plan, flights: usize, visits: usize) {
+pub fn fly(random: &mut Random, plan: &mut Numbers, flights: usize, visits: usize) {
     plan.counts = vec![visits as u64; flights];
     plan.visits = vec![];
     for _ in 0..flights {
@@ -122,9 +108,9 @@ pub fn fly(random: &mut Random, plan: &mut Plan, flights: usize, visits: usize) 
 
 /// A list of `n` moves of the kinds given, in no order: a region at an edge is given to its neighbour's sector or to any, or exchanged
 /// with a neighbour of another sector.
-pub fn moves(random: &mut Random, plan: &Plan, kinds: &[u64], n: usize) -> Vec<u64> {
-    let ends: Vec<_> = plan.ends().collect();
-    let borders: Vec<_> = plan.ends().filter(|&(a, b)| plan.colouring[a] != plan.colouring[b]).collect();
+pub fn moves(random: &mut Random, plan: &Numbers, kinds: &[u64], n: usize) -> Vec<u64> {
+    let ends: Vec<_> = ends(plan).collect();
+    let borders: Vec<_> = ends.iter().copied().filter(|&(a, b)| plan.colouring[a] != plan.colouring[b]).collect();
     let mut list = vec![];
     for _ in 0..n {
         let kind = kinds[random.below(kinds.len() as u64) as usize];

@@ -2,10 +2,10 @@
 //! that they answer and leave compared.
 
 use crate::plain_sheet::{self, FIRST, SECOND};
-use crate::plans::Plan;
 use qirfadhun::limits::{
     MOST_BYTES, MOST_CONSTRAINTS, MOST_EDGES, MOST_FLIGHTS, MOST_REGIONS, MOST_SECOND_BYTES, MOST_VISITS_IN_ALL,
 };
+use qirfadhun::lists::{self, Numbers};
 use std::hint::black_box;
 use std::time::Instant;
 
@@ -17,12 +17,12 @@ const LARGEST_SECOND: &[u8] = include_bytes!("../../../../sheets/largest-second.
 #[derive(PartialEq)]
 struct Read {
     head: plain_sheet::Head,
-    plan: Plan,
+    plan: Numbers,
 }
 
 /// Lists with room for every sheet.
 fn empty() -> Read {
-    let plan = Plan {
+    let plan = Numbers {
         regions: 0,
         sectors: 0,
         workloads: vec![0; MOST_REGIONS],
@@ -41,56 +41,29 @@ fn plain_read(sheet: &[u8], read: &mut Read) {
 }
 
 fn proved_read(sheet: &[u8], read: &mut Read) {
-    let Plan { workloads, outside, edges, counts, visits, constraints, colouring, .. } = &mut read.plan;
-    let head =
-        qirfadhun::lists::read(sheet, workloads, outside, edges, counts, visits, constraints, colouring).expect("a good sheet");
+    let Numbers { workloads, outside, edges, counts, visits, constraints, colouring, .. } = &mut read.plan;
+    let head = lists::read(sheet, workloads, outside, edges, counts, visits, constraints, colouring).expect("a good sheet");
     read.head = [head.regions, head.sectors, head.edges, head.constraints, head.flights, head.visits];
     (read.plan.regions, read.plan.sectors) = (head.regions, head.sectors);
 }
 
-/// The plan in a sheet, its lists as long as it needs them.
-fn plan_in(sheet: &[u8]) -> Plan {
-    let mut read = empty();
-    proved_read(sheet, &mut read);
-    let Read { head: [regions, _, edges, constraints, flights, visits], mut plan } = read;
-    for list in [&mut plan.workloads, &mut plan.outside, &mut plan.colouring] {
-        list.truncate(regions as usize);
-    }
-    plan.edges.truncate(3 * edges as usize);
-    plan.counts.truncate(flights as usize);
-    plan.visits.truncate(2 * visits as usize);
-    plan.constraints.truncate(4 * constraints as usize);
-    plan
-}
-
-fn plain_write(plan: &Plan, sheet: &mut [u8; MOST_BYTES]) {
+fn plain_write(plan: &Numbers, sheet: &mut [u8; MOST_BYTES]) {
     assert_eq!(plain_sheet::write(&FIRST, plan, sheet), Ok(LARGEST.len()));
 }
 
-fn proved_write(plan: &Plan, sheet: &mut [u8; MOST_BYTES]) {
-    let Plan { regions, sectors, workloads, edges, constraints, colouring, .. } = plan;
-    let bytes = qirfadhun::lists::write(*regions, *sectors, workloads, edges, constraints, colouring, sheet);
+fn proved_write(plan: &Numbers, sheet: &mut [u8; MOST_BYTES]) {
+    let Numbers { regions, sectors, workloads, edges, constraints, colouring, .. } = plan;
+    let bytes = lists::write(*regions, *sectors, workloads, edges, constraints, colouring, sheet);
     assert_eq!(bytes, Ok(LARGEST.len()));
 }
 
-fn plain_write_second(plan: &Plan, sheet: &mut [u8; MOST_SECOND_BYTES]) {
+fn plain_write_second(plan: &Numbers, sheet: &mut [u8; MOST_SECOND_BYTES]) {
     assert_eq!(plain_sheet::write(&SECOND, plan, sheet), Ok(LARGEST_SECOND.len()));
 }
 
-fn proved_write_second(plan: &Plan, sheet: &mut [u8; MOST_SECOND_BYTES]) {
-    let Plan { regions, sectors, workloads, outside, edges, counts, visits, constraints, colouring } = plan;
-    let bytes = qirfadhun::lists::write_second(
-        *regions,
-        *sectors,
-        workloads,
-        outside,
-        edges,
-        counts,
-        visits,
-        constraints,
-        colouring,
-        sheet,
-    );
+fn proved_write_second(plan: &Numbers, sheet: &mut [u8; MOST_SECOND_BYTES]) {
+    let Numbers { regions, sectors, workloads, outside, edges, counts, visits, constraints, colouring } = plan;
+    let bytes = lists::write_second(*regions, *sectors, workloads, outside, edges, counts, visits, constraints, colouring, sheet);
     assert_eq!(bytes, Ok(LARGEST_SECOND.len()));
 }
 
@@ -99,7 +72,7 @@ fn plain_to_second(sheet: &[u8], converted: &mut [u8; MOST_SECOND_BYTES]) {
 }
 
 fn proved_to_second(sheet: &[u8], converted: &mut [u8; MOST_SECOND_BYTES]) {
-    assert!(qirfadhun::lists::to_second(sheet, converted).is_ok());
+    assert!(lists::to_second(sheet, converted).is_ok());
 }
 
 fn plain_to_first(sheet: &[u8], converted: &mut [u8; MOST_BYTES]) {
@@ -107,7 +80,7 @@ fn plain_to_first(sheet: &[u8], converted: &mut [u8; MOST_BYTES]) {
 }
 
 fn proved_to_first(sheet: &[u8], converted: &mut [u8; MOST_BYTES]) {
-    assert!(qirfadhun::lists::to_first(sheet, converted).is_ok());
+    assert!(lists::to_first(sheet, converted).is_ok());
 }
 
 /// The shortest time, in nanoseconds, of each of the two, which must leave the same in what is lent to them.
@@ -139,12 +112,20 @@ pub fn print_all() {
     let (first, second) = (black_box(LARGEST), black_box(LARGEST_SECOND));
     let (no_bytes, no_second_bytes) = (|| [0; MOST_BYTES], || [0; MOST_SECOND_BYTES]);
     print("the first read", first, measure(first, empty, [plain_read, proved_read]));
-    print("the first written", first, measure(&plan_in(first), no_bytes, [plain_write, proved_write]));
+    print(
+        "the first written",
+        first,
+        measure(&Numbers::read(first).expect("a good sheet"), no_bytes, [plain_write, proved_write]),
+    );
     print("the second read", second, measure(second, empty, [plain_read, proved_read]));
-    print("the second written", second, measure(&plan_in(second), no_second_bytes, [plain_write_second, proved_write_second]));
+    print(
+        "the second written",
+        second,
+        measure(&Numbers::read(second).expect("a good sheet"), no_second_bytes, [plain_write_second, proved_write_second]),
+    );
     print("the first to a second", first, measure(first, no_second_bytes, [plain_to_second, proved_to_second]));
     let mut lent = no_second_bytes();
-    let bytes = qirfadhun::lists::to_second(first, &mut lent).expect("a good sheet");
+    let bytes = lists::to_second(first, &mut lent).expect("a good sheet");
     let back = black_box(&lent[..bytes]);
     print("and back", back, measure(back, no_bytes, [plain_to_first, proved_to_first]));
 }
