@@ -223,7 +223,8 @@ impl Board {
         self.plan.region(region.get()).map(|region| Region::checked(self.work().label(region)))
     }
 
-    /// The stretches of all flights, in the order in which they are flown.
+    /// The stretches of all flights, in the order in which they are flown. They are worked out here, of the plan and the colouring;
+    /// the reasons of a verdict on dwell time hold them to the proved violation.
     #[must_use]
     pub fn stretches(&self) -> Vec<Stretch> {
         stretches::of(&self.plan, &self.colouring)

@@ -16,8 +16,9 @@
 //! ```
 //!
 //! No call has a premise: whatever is handed over, it ends, without a panic, and answers either what was asked for or a
-//! [`Refusal`], after which nothing is changed. Every number comes from the proved calls; the reasons of a verdict are held to its
-//! proved violation. A thread with 512 KiB of stack has room for every call.
+//! [`Refusal`], after which nothing is changed. Totals, deltas, violations, labels, components and workloads are those of the
+//! proved calls. What a reason says is read off them and off the plan, and its parts are held to the proved violation. A thread
+//! with 512 KiB of stack has room for every call.
 //!
 //! A search proposes changes in lists, and the board answers with the difference that each would make to the total, or with a
 //! [`Row`] for each [`Move`]:

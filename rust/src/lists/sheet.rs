@@ -6,9 +6,8 @@ use crate::Refusal;
 /// The bytes of either sheet, not refused, to be asked for its verdicts. Each question reads the bytes anew. The plan in a second
 /// sheet is judged with its outside areas and flights, the one in a first sheet without.
 ///
-/// Constraints are known by their place in the list, from 1. For a place outside the list [`holds`](Sheet::holds) answers false and
-/// [`violation`](Sheet::violation) 0; inside it, a constraint holds exactly when its violation is 0.
-/// [`Board::read`](crate::Board::read) has the verdicts as values that can't be taken for each other's.
+/// Constraints are known by their place in the list, from 1; a place outside it has no answer. A constraint holds exactly when its
+/// violation is 0. [`Board::read`](crate::Board::read) has the verdicts as values that can't be taken for each other's.
 ///
 /// ```
 /// use qirfadhun::lists::Sheet;
@@ -16,9 +15,9 @@ use crate::Refusal;
 /// let mut bytes = std::fs::read("../sheets/a.sheet")?;
 /// let sheet = Sheet::new(&bytes)?;
 /// assert_eq!((sheet.constraints(), sheet.total()), (4, 15));
-/// assert_eq!((sheet.holds(1), sheet.violation(1)), (true, 0));
-/// assert_eq!((sheet.holds(4), sheet.violation(4)), (false, 5));
-/// assert_eq!((sheet.holds(5), sheet.violation(5)), (false, 0)); // there is no fifth constraint
+/// assert_eq!((sheet.holds(1), sheet.violation(1)), (Some(true), Some(0)));
+/// assert_eq!((sheet.holds(4), sheet.violation(4)), (Some(false), Some(5)));
+/// assert_eq!((sheet.holds(0), sheet.violation(5)), (None, None)); // the first is 1, and there is no fifth constraint
 ///
 /// bytes[1030] = 9;
 /// let refusal = Sheet::new(&bytes).unwrap_err();
@@ -26,7 +25,7 @@ use crate::Refusal;
 ///
 /// let flown = std::fs::read("../sheets/flights.sheet")?;
 /// let sheet = Sheet::new(&flown)?;
-/// assert_eq!((sheet.violation(2), sheet.violation(5), sheet.total()), (8, 15, 53));
+/// assert_eq!((sheet.violation(2), sheet.violation(5), sheet.total()), (Some(8), Some(15), 53));
 /// # Ok::<(), Box<dyn std::error::Error>>(())
 /// ```
 #[derive(Clone, Copy, Debug, PartialEq, Eq)]
@@ -63,17 +62,22 @@ impl<'a> Sheet<'a> {
         unsafe { raw::sctr_constraints(self.bytes.as_ptr(), self.bytes.len()) }
     }
 
-    /// Whether the constraint at this place, from 1, holds; false for a place outside the list.
+    /// Whether the constraint at this place, from 1, holds; `None` for a place outside the list.
     #[must_use]
-    pub fn holds(&self, place: u64) -> bool {
+    pub fn holds(&self, place: u64) -> Option<bool> {
         // SAFETY: as in `new`.
-        unsafe { raw::sctr_holds(self.bytes.as_ptr(), self.bytes.len(), place) == 1 }
+        self.has(place).then(|| unsafe { raw::sctr_holds(self.bytes.as_ptr(), self.bytes.len(), place) == 1 })
     }
 
-    /// The violation of the constraint at this place, from 1; 0 for a place outside the list.
+    /// The violation of the constraint at this place, from 1; `None` for a place outside the list.
     #[must_use]
-    pub fn violation(&self, place: u64) -> u64 {
+    pub fn violation(&self, place: u64) -> Option<u64> {
         // SAFETY: as in `new`.
-        unsafe { raw::sctr_violation(self.bytes.as_ptr(), self.bytes.len(), place) }
+        self.has(place).then(|| unsafe { raw::sctr_violation(self.bytes.as_ptr(), self.bytes.len(), place) })
+    }
+
+    /// Whether there is a constraint at this place.
+    fn has(&self, place: u64) -> bool {
+        (1..=self.constraints()).contains(&place)
     }
 }

@@ -3,7 +3,7 @@
 use crate::calls::{by_library, Call, Memory};
 use crate::cases::{all_cases, random_cases, Case, Code};
 use crate::library;
-use crate::plans::{largest_whole_plan, moves, sheet_a, sheet_a_with_both, whole_plan, Numbers, Random};
+use crate::plans::{largest_whole_plan, moves, records, sheet_a, sheet_a_with_both, whole_plan, Numbers, Random};
 use crate::reference::{CONSTRAINTS, MOVES, REGIONS, SECTORS};
 use crate::sheets::files;
 use crate::typed::{self, board, built, numbers, region, row_numbers, sector, typed_move, Shown};
@@ -186,7 +186,10 @@ fn sheet_files() {
         assert_eq!((board.total(), board.verdicts().len() as u64), (asked.total(), asked.constraints()));
         for verdict in board.verdicts() {
             let place = verdict.place();
-            assert_eq!((verdict.holds(), verdict.violation()), (asked.holds(place.get()), asked.violation(place.get())));
+            assert_eq!(
+                (Some(verdict.holds()), Some(verdict.violation())),
+                (asked.holds(place.get()), asked.violation(place.get()))
+            );
             assert_eq!(board.verdict(place).map(|same| same.to_string()), Some(verdict.to_string()));
         }
         for place in (asked.constraints() + 1..=16).filter_map(Place::new) {
@@ -297,7 +300,7 @@ fn on_a_small_stack() {
     let mut random = Random::new(1);
     let plan = largest_whole_plan(&mut random);
     let moves = OnBoard::new(plan.clone(), moves(&mut random, &plan, 100)).moves();
-    let numbers = numbers(&plan);
+    let (numbers, flat) = (numbers(&plan), plan);
     let all = move || {
         let (plan, colouring) = Plan::from_numbers(numbers).expect("a good plan");
         let mut board = plan.judge(&colouring).expect("a good colouring");
@@ -307,6 +310,32 @@ fn on_a_small_stack() {
         assert_eq!(board.write(Form::First).map_err(|refusal| refusal.code), Err(41));
         assert_eq!(Board::read(&second).map(|read| read.total()), Ok(board.total()));
         assert_eq!(library::Sheet::new(&second).map(|sheet| sheet.total()), Ok(board.total()));
+
+        // By records, and a sheet of the first form there and back.
+        let Numbers { regions, sectors, workloads, outside, edges, counts, visits, constraints, mut colouring } = flat;
+        let (records, mut verdicts, mut work) = (records(&constraints), [0; 2 * 16], [0; 641]);
+        let totals = library::call_records(
+            regions,
+            sectors,
+            &workloads,
+            &outside,
+            &edges,
+            &counts,
+            &visits,
+            &records,
+            &mut colouring,
+            &[],
+            &mut [],
+            &mut verdicts,
+            &mut work,
+        );
+        assert!(totals.is_ok());
+        let border = library::Constraint { kind: 2, relation: 1, limit: 0, weight: 1 };
+        let mut first = vec![0; qirfadhun::limits::MOST_BYTES];
+        let bytes = library::write_records(regions, sectors, &workloads, &edges, &[border; 16], &colouring, &mut first);
+        let mut second = vec![0; qirfadhun::limits::MOST_SECOND_BYTES];
+        let converted = bytes.and_then(|bytes| library::to_second(&first[..bytes], &mut second));
+        assert_eq!(converted.and_then(|converted| library::to_first(&second[..converted], &mut first)), bytes);
     };
     let small = std::thread::Builder::new().stack_size(512 * 1024).spawn(all).expect("a thread");
     small.join().expect("the stack is enough");

@@ -191,11 +191,11 @@ fn same<T: PartialEq + std::fmt::Debug>(what: &str, one: &T, other: &T) -> Resul
 
 /// All that a sheet answers by its bytes: the total, the number of constraints, and at each place in and around their list whether
 /// it holds and its violation.
-fn verdicts(bytes: &[u8]) -> Result<Vec<u64>, qirfadhun::Refusal> {
+fn verdicts(bytes: &[u8]) -> Result<Vec<Option<u64>>, qirfadhun::Refusal> {
     let sheet = library::Sheet::new(bytes)?;
-    let mut answers = vec![sheet.total(), sheet.constraints()];
+    let mut answers = vec![Some(sheet.total()), Some(sheet.constraints())];
     for place in 0..=sheet.constraints() + 1 {
-        answers.extend([u64::from(sheet.holds(place)), sheet.violation(place)]);
+        answers.extend([sheet.holds(place).map(u64::from), sheet.violation(place)]);
     }
     Ok(answers)
 }

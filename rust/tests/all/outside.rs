@@ -206,7 +206,7 @@ fn only_the_second_sheet_has_them() {
         let (answer, memory) = asked(&sheet.plan, &[]);
         assert_eq!(answer, [0, 0, judged.total(), judged.total()]);
         for (place, verdict) in (1..).zip(memory.verdicts.content().chunks(2)) {
-            assert_eq!([u64::from(judged.holds(place)), judged.violation(place)], verdict);
+            assert_eq!((judged.holds(place), judged.violation(place)), (Some(verdict[0] == 1), Some(verdict[1])));
         }
         // Each face of 1 to the outside adds 1 to T.
         let (inland, whole) = (sheet.plan.clone().plain(), sheet.plan.outside.iter().sum::<u64>());

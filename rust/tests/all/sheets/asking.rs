@@ -67,9 +67,7 @@ fn by_library(memory: &mut Memory) -> Answers {
             place: 0,
             total: sheet.total(),
             constraints: sheet.constraints(),
-            verdicts: places
-                .map(|&place| Verdict { place, holds: u64::from(sheet.holds(place)), violation: sheet.violation(place) })
-                .collect(),
+            verdicts: places.map(|&place| by_sheet(&sheet, place)).collect(),
         },
         Err(refusal) => Answers {
             code: refusal.code,
@@ -79,6 +77,13 @@ fn by_library(memory: &mut Memory) -> Answers {
             verdicts: places.map(|&place| Verdict { place, holds: 0, violation: 0 }).collect(),
         },
     }
+}
+
+/// Outside the list there is no answer, where the archive has 0.
+fn by_sheet(sheet: &library::Sheet, place: u64) -> Verdict {
+    let inside = (1..=sheet.constraints()).contains(&place);
+    assert_eq!((sheet.holds(place).is_some(), sheet.violation(place).is_some()), (inside, inside));
+    Verdict { place, holds: sheet.holds(place).map_or(0, u64::from), violation: sheet.violation(place).unwrap_or(0) }
 }
 
 /// The archive's own answers, which show that a refused sheet has 0 everywhere.

@@ -75,7 +75,7 @@ pub fn typed_move(three: &[u64]) -> Option<Move> {
     }
 }
 
-/// The four numbers of a row, and whether it answers the move of these three.
+/// The four numbers of a row. It has a delta or a violation by what was asked, and neither where it is refused.
 pub fn row_numbers(row: Row) -> [i64; 4] {
     let status = row.refusal().map_or(0, |refusal| refusal.code as i64);
     let asked = match row.asked() {
