@@ -100,7 +100,7 @@ impl Board {
     /// after it are answered.
     ///
     /// The library takes 4,096 moves in a call. A longer list is cut, and it is proved that rows, colouring, verdicts and totals
-    /// are those of the one list.
+    /// are those of the one list. It has to end, and to fit into memory.
     ///
     /// ```
     /// use qirfadhun::{Board, Change, Move};
@@ -152,14 +152,16 @@ impl Board {
         row.refusal().map_or(Ok(row), Err)
     }
 
-    /// Judges another colouring of the plan, in the same memory. Where it is refused, the board is as it was.
+    /// Judges another colouring of the plan, in the same memory; no rows are left. Where it is refused, the board is as it was.
     ///
     /// # Errors
     ///
     /// 8, where the colouring is not one of the plan.
     pub fn restart(&mut self, colouring: &Colouring) -> Result<(), Refusal> {
         let before = std::mem::replace(&mut self.colouring, colouring.clone());
-        self.judge().inspect_err(|_| self.colouring = before)
+        self.judge().inspect_err(|_| self.colouring = before)?;
+        self.answered = 0;
+        Ok(())
     }
 
     /// The plan.
@@ -186,7 +188,7 @@ impl Board {
         self.work().border()
     }
 
-    /// The rows of the last list of moves.
+    /// The rows of the last list of moves that led to this colouring.
     #[must_use]
     pub fn rows(&self) -> Rows<'_> {
         let answered = self.moves.get(..self.answered).unwrap_or(&[]);

@@ -173,9 +173,10 @@ pub fn reasons(board: &Board, place: Place, constraint: Constraint, violation: u
 /// Holds the parts to the violation.
 fn held(place: Place, violation: u64, parts: Option<&[Part]>) -> Result<(), Unexplained> {
     let explained = parts.and_then(|parts| parts.iter().try_fold(0u64, |sum, &(_, part)| sum.checked_add(part)));
-    match explained == Some(violation) {
-        true => Ok(()),
-        false => Err(Unexplained { place, violation, explained }),
+    if explained == Some(violation) {
+        Ok(())
+    } else {
+        Err(Unexplained { place, violation, explained })
     }
 }
 

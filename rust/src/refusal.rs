@@ -85,10 +85,10 @@ fn joined(listed: impl Iterator<Item = &'static Listed>, said: fn(&Listed) -> &'
             all.push(words);
         }
     }
-    match all.is_empty() {
-        true => "this code is not listed".to_string(),
-        false => all.join(", or "),
+    if all.is_empty() {
+        return "this code is not listed".to_string();
     }
+    all.join(", or ")
 }
 
 /// The code, the place and the sentence.

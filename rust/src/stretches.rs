@@ -22,10 +22,11 @@ pub struct Stretch {
 impl fmt::Display for Stretch {
     fn fmt(&self, f: &mut fmt::Formatter<'_>) -> fmt::Result {
         let Stretch { flight, sector, first_visit, last_visit, seconds } = self;
-        match first_visit == last_visit {
-            true => write!(f, "flight {flight}, visit {first_visit}, is {seconds} seconds in sector {sector}"),
-            false => write!(f, "flight {flight}, visits {first_visit} to {last_visit}, is {seconds} seconds in sector {sector}"),
+        write!(f, "flight {flight}, visit")?;
+        if first_visit != last_visit {
+            write!(f, "s {first_visit} to")?;
         }
+        write!(f, " {last_visit}, is {seconds} seconds in sector {sector}")
     }
 }
 

@@ -104,9 +104,10 @@ impl fmt::Display for Verdict<'_> {
     fn fmt(&self, f: &mut fmt::Formatter<'_>) -> fmt::Result {
         let Verdict { place, constraint, violation, .. } = self;
         write!(f, "Constraint {place}, {}: {constraint}. ", constraint.kind)?;
-        match self.holds {
-            true => f.write_str("Holds."),
-            false => write!(f, "Broken: {violation}, times weight {}.", constraint.weight),
+        if self.holds {
+            f.write_str("Holds.")
+        } else {
+            write!(f, "Broken: {violation}, times weight {}.", constraint.weight)
         }
     }
 }
