@@ -41,17 +41,21 @@ pub enum Move {
 
 impl Move {
     /// The numbers that the library takes.
+    #[inline]
     pub(crate) fn numbers(self) -> [u64; MOVE] {
-        match self {
-            Move::Probe(Change::Give(region, sector)) => [1, region.get(), sector.get()],
-            Move::Make(Change::Give(region, sector)) => [2, region.get(), sector.get()],
-            Move::Probe(Change::Exchange(one, other)) => [3, one.get(), other.get()],
-            Move::Make(Change::Exchange(one, other)) => [4, one.get(), other.get()],
-            Move::Ask(region) => [5, region.get(), 0],
+        let (kind, change) = match self {
+            Move::Probe(change) => (1, change),
+            Move::Make(change) => (2, change),
+            Move::Ask(region) => return [5, region.get(), 0],
+        };
+        match change {
+            Change::Give(region, sector) => [kind, region.get(), sector.get()],
+            Change::Exchange(one, other) => [kind + 2, one.get(), other.get()],
         }
     }
 
     /// The move that has these numbers.
+    #[inline]
     fn of([kind, first, second]: [u64; MOVE]) -> Self {
         let region = Region::checked(first);
         let change = match kind {
@@ -74,16 +78,19 @@ pub struct Row {
 }
 
 impl Row {
+    #[inline]
     pub(crate) fn new(asked: Move, numbers: [i64; ROW]) -> Self {
         Row { asked, numbers }
     }
 
+    #[inline]
     fn of((asked, numbers): (&[u64; MOVE], &[i64; ROW])) -> Self {
         Row::new(Move::of(*asked), *numbers)
     }
 
     /// The move that this answers.
     #[must_use]
+    #[inline]
     pub fn asked(&self) -> Move {
         self.asked
     }
@@ -91,6 +98,7 @@ impl Row {
     /// Why the move was refused, if it was: 22 or 23, a region or a sector that the plan doesn't have. It has changed nothing, and
     /// the moves after it were answered.
     #[must_use]
+    #[inline]
     pub fn refusal(&self) -> Option<Refusal> {
         match self.numbers[0] {
             0 => None,
@@ -102,6 +110,7 @@ impl Row {
     /// which have no such number; in Rust's order it comes before every number, so the smallest delta is to be taken of
     /// [`Rows::deltas`].
     #[must_use]
+    #[inline]
     pub fn delta(&self) -> Option<i64> {
         match self.asked {
             Move::Ask(_) => None,
@@ -112,6 +121,7 @@ impl Row {
     /// The violation of the region that was asked about; `None` for all but a question, and for a refused one. The violations of
     /// all regions don't add up to the total.
     #[must_use]
+    #[inline]
     pub fn violation(&self) -> Option<u64> {
         match self.asked {
             Move::Ask(_) => self.accepted().map(|violation| violation as u64),
@@ -121,17 +131,20 @@ impl Row {
 
     /// The total after this move, which a probe, a question and a refused move leave as it was.
     #[must_use]
+    #[inline]
     pub fn total(&self) -> u64 {
         self.numbers[2] as u64
     }
 
     /// How many regions are in a component with another smallest region than before: 0 for all but a made change.
     #[must_use]
+    #[inline]
     pub fn relabelled(&self) -> u64 {
         self.numbers[3] as u64
     }
 
     /// The second number of an accepted move.
+    #[inline]
     fn accepted(&self) -> Option<i64> {
         (self.numbers[0] == 0).then_some(self.numbers[1])
     }
@@ -158,6 +171,7 @@ impl<'b> Rows<'b> {
 impl Iterator for Rows<'_> {
     type Item = Row;
 
+    #[inline]
     fn next(&mut self) -> Option<Row> {
         self.both.next().map(Row::of)
     }
@@ -168,6 +182,7 @@ impl Iterator for Rows<'_> {
 }
 
 impl DoubleEndedIterator for Rows<'_> {
+    #[inline]
     fn next_back(&mut self) -> Option<Row> {
         self.both.next_back().map(Row::of)
     }
@@ -184,6 +199,7 @@ pub struct Deltas<'b> {
 impl Iterator for Deltas<'_> {
     type Item = (Change, i64);
 
+    #[inline]
     fn next(&mut self) -> Option<(Change, i64)> {
         self.rows.find_map(|row| match row.asked {
             Move::Probe(change) | Move::Make(change) => Some((change, row.accepted()?)),

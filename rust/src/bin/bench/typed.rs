@@ -61,7 +61,7 @@ fn measure(plan: &Numbers, moves: &[u64]) -> [[f64; 2]; 2] {
     let mut keep = |which: usize, there: f64, read: f64| {
         best[which] = [best[which][0].min(there), best[which][1].min(read)];
     };
-    for run in 0..2 * RUNS {
+    for run in 0..4 * RUNS {
         flat.colouring.clone_from(&plan.colouring);
         board.restart(&start).expect("a good colouring");
         let mut sums = [0; 2];
