@@ -29,7 +29,7 @@ pub const LISTED: &[Listed] = &[
         place: None,
         given: "S is not in 1..64",
         meaning: "the plan has no sector, or more than we judge",
-        remedy: "as for 1",
+        remedy: "take a part of the airspace with fewer sectors, or at least one",
     },
     Listed {
         code: 3,
@@ -224,11 +224,13 @@ pub const LISTED: &[Listed] = &[
     },
     Listed {
         code: 37,
-        place: Some("code above for it"),
-        given: "a number of the head, or of what the blocks hold, is refused by the table above; in a first sheet also kind 5, \
-                by 7; in a second also visit counts that don't add up to the head's number of visits, by 13",
+        place: Some("code of that table"),
+        given:
+            "a number of the head, or of what the blocks hold, is refused by the table of the call on a plan; in a first sheet \
+                also kind 5, by 7; in a second also, by 13, a head with fewer visits than flights or more than 32 times as many, \
+                and visit counts that don't add up to the head's number of visits",
         meaning: "the sheet came over whole, but the plan in it is refused",
-        remedy: "look up that code above",
+        remedy: "look that code up under a call on a plan",
     },
     Listed {
         code: 38,

@@ -28,6 +28,9 @@ fn document() -> Vec<Line> {
     let cells = text.lines().filter(|line| line.starts_with('|')).map(|line| line.trim_matches('|').split('|').map(str::trim));
     let mut lines = Vec::new();
     for cells in cells.map(Iterator::collect::<Vec<_>>) {
+        if cells.len() < 4 {
+            continue; // the index by number
+        }
         let Ok(code) = cells[0].parse() else { continue };
         let place = if cells.len() == 5 { cells[2] } else { "0" }; // the table of moves has no places
         let place = (place != "0").then(|| place.trim_start_matches("the ").to_string());
