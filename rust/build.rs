@@ -3,7 +3,9 @@
 //! names the command.
 //!
 //! Older goes by times of modification, as cargo's own rule does. `rt staticlib` writes the archive anew each time that it proves,
-//! and leaves the one before where it doesn't. Without `crates/` beside it, nothing is newer than the archive.
+//! and leaves the one before where it doesn't. Without `crates/` beside it, nothing is newer than the archive. All places are
+//! relative to the crate, and the archive is linked from a copy in cargo's own folder, so that a copied tree doesn't link the
+//! archive of the tree it was copied from.
 
 use std::fs;
 use std::path::{Path, PathBuf};
@@ -12,17 +14,17 @@ use std::time::SystemTime;
 const COMMAND: &str = "run `rt staticlib screen` in the repository first, and for the tests `rt check verdicts`";
 
 fn main() {
-    let root = Path::new(env!("CARGO_MANIFEST_DIR")).parent().expect("the crate lies in the repository");
-    let folder = root.join("target/staticlib");
-    let archive = folder.join("libscreen.a");
-    let sources = [root.join("crates.txt"), root.join("crates")];
-    if let Err(fault) = held_to(&sources, &archive) {
+    let archive = Path::new("../target/staticlib/libscreen.a");
+    let sources = ["../crates.txt", "../crates"].map(PathBuf::from);
+    if let Err(fault) = held_to(&sources, archive) {
         println!("cargo::error={} {fault}: {COMMAND}", archive.display());
         return;
     }
-    println!("cargo::rustc-link-search=native={}", folder.display());
+    let folder = std::env::var("OUT_DIR").expect("cargo names a folder");
+    fs::copy(archive, Path::new(&folder).join("libscreen.a")).expect("the folder can be written");
+    println!("cargo::rustc-link-search=native={folder}");
     println!("cargo::rustc-link-lib=static=screen");
-    for looked_at in sources.iter().chain([&archive]) {
+    for looked_at in sources.iter().map(PathBuf::as_path).chain([archive]) {
         println!("cargo::rerun-if-changed={}", looked_at.display());
     }
 }

@@ -96,8 +96,8 @@ impl Board {
         self.plan.write(&self.colouring, form)
     }
 
-    /// Takes the moves in turn, as many as there are, and answers with a row for each. A refused move changes nothing, and those
-    /// after it are answered.
+    /// Takes the moves in turn, as many as there are, and answers with a row for each. All are taken before it returns, whether
+    /// the rows are looked at or not. A refused move changes nothing, and those after it are answered.
     ///
     /// The library takes 4,096 moves in a call. A longer list is cut, and it is proved that rows, colouring, verdicts and totals
     /// are those of the one list. It has to end, and to fit into memory.
@@ -116,7 +116,15 @@ impl Board {
     pub fn run<M: Borrow<Move>>(&mut self, moves: impl IntoIterator<Item = M>) -> Rows<'_> {
         self.answered = 0;
         self.moves.clear();
-        self.moves.extend(moves.into_iter().map(|asked| asked.borrow().numbers()));
+        let mut numbers = moves.into_iter().map(|asked| asked.borrow().numbers());
+        // A list at a time: what an iterator says of its own length needn't be so.
+        while self.moves.len().is_multiple_of(MOST_MOVES) {
+            let before = self.moves.len();
+            self.moves.extend(numbers.by_ref().take(MOST_MOVES));
+            if self.moves.len() == before {
+                break;
+            }
+        }
         if self.rows.len() < self.moves.len() {
             self.rows.resize(self.moves.len(), [0; ROW]);
         }
@@ -156,7 +164,7 @@ impl Board {
     ///
     /// # Errors
     ///
-    /// 8, where the colouring is not one of the plan.
+    /// 8, where the colouring has not one sector for each region, or one that the plan doesn't have.
     pub fn restart(&mut self, colouring: &Colouring) -> Result<(), Refusal> {
         let before = std::mem::replace(&mut self.colouring, colouring.clone());
         self.judge().inspect_err(|_| self.colouring = before)?;

@@ -1,5 +1,6 @@
 //! A plan put together piece by piece.
 
+use crate::limits::MOST_VISITS;
 use crate::lists::Numbers;
 use crate::{Area, Constraint, Plan, Refusal, Region, Seconds, Workload};
 
@@ -35,7 +36,9 @@ impl PlanBuilder {
     /// The next flight: the regions that it visits in turn, and how long it stays in each.
     pub fn flight(&mut self, visits: impl IntoIterator<Item = (Region, Seconds)>) -> &mut Self {
         let before = self.numbers.visits.len();
-        self.numbers.visits.extend(visits.into_iter().flat_map(|(region, seconds)| [region.get(), seconds.0]));
+        // One visit too many is refused as any number is.
+        let visits = visits.into_iter().take(MOST_VISITS + 1);
+        self.numbers.visits.extend(visits.flat_map(|(region, seconds)| [region.get(), seconds.0]));
         self.numbers.counts.push((self.numbers.visits.len() - before) as u64 / 2);
         self
     }

@@ -1,4 +1,5 @@
-//! Every code that something is refused by, as `docs/CODES.md` lists them: a table to translate from.
+//! Every code that something is refused by, as `docs/CODES.md` lists them: a table to translate from. R is the number of regions, S
+//! the number of sectors.
 
 /// A way to be refused by a code.
 #[derive(Clone, Copy, Debug, PartialEq, Eq)]
@@ -169,15 +170,15 @@ pub const LISTED: &[Listed] = &[
     Listed {
         code: 22,
         place: None,
-        given: "the second number is not a region, 1..R",
+        given: "its region, or the first of two, which is its second number, is not in 1..R",
         meaning: "there is no such region",
         remedy: "correct the region",
     },
     Listed {
         code: 23,
         place: None,
-        given: "the third number is not a sector (kinds 1, 2), not a region (kinds 3, 4), not 0 (kind 5)",
-        meaning: "there is no such sector or region",
+        given: "its third number is not a sector in 1..S (kinds 1, 2), not a region in 1..R (kinds 3, 4), not 0 (kind 5)",
+        meaning: "there is no such sector, or no such second region",
         remedy: "correct it",
     },
     Listed {

@@ -1,5 +1,6 @@
 //! A colouring: the sector of each region.
 
+use crate::limits::MOST_REGIONS;
 use crate::{Region, Sector};
 
 /// The sector of each region, from region 1 on.
@@ -31,7 +32,7 @@ impl Colouring {
 
     /// Each region with its sector.
     pub fn iter(&self) -> impl Iterator<Item = (Region, Sector)> + '_ {
-        Region::up_to(crate::limits::MOST_REGIONS as u64).zip(self.sectors.iter().map(|&sector| Sector::checked(sector)))
+        Region::up_to(MOST_REGIONS as u64).zip(self.sectors.iter().map(|&sector| Sector::checked(sector)))
     }
 
     /// How many regions have a sector.
@@ -47,8 +48,9 @@ impl Colouring {
     }
 }
 
+/// Of more sectors than a plan can have regions, one more than these is taken: no plan takes such a colouring.
 impl FromIterator<Sector> for Colouring {
     fn from_iter<I: IntoIterator<Item = Sector>>(sectors: I) -> Self {
-        Colouring { sectors: sectors.into_iter().map(Sector::get).collect() }
+        Colouring { sectors: sectors.into_iter().take(MOST_REGIONS + 1).map(Sector::get).collect() }
     }
 }

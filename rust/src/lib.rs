@@ -15,13 +15,12 @@
 //! # Ok::<(), Box<dyn std::error::Error>>(())
 //! ```
 //!
-//! No call has a premise: whatever is handed over, it ends, without a panic, and answers either what was asked for or a
+//! No call has a premise: whatever is handed over, as long as memory has room for it, it ends, without a panic, and answers either what was asked for or a
 //! [`Refusal`], after which nothing is changed. Totals, deltas, violations, labels, components and workloads are those of the
 //! proved calls. What a reason says is read off them and off the plan, and its parts are held to the proved violation.
 //!
 //! Not proved, but measured on the largest plans: judging and moves take up to 200 KiB of the stack, reading and converting 96,
-//! writing 4, and a question to [`lists::Sheet`] 300. A thread with 512 KiB has room for every call. Memory for a list's rows is
-//! made as long as the list: one without end has no answer.
+//! writing 4, and a question to [`lists::Sheet`] 300. A thread with 512 KiB has room for every call.
 //!
 //! A search proposes changes in lists, and the board answers with the difference that each would make to the total, or with a
 //! [`Row`] for each [`Move`]:

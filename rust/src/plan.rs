@@ -138,7 +138,7 @@ impl Plan {
     ///
     /// # Errors
     ///
-    /// 8, where the colouring is not one of this plan. In the first form also 41, where the plan has an outside area, a flight or
+    /// 8, where the colouring has not one sector for each region, or one that the plan doesn't have. In the first form also 41, where the plan has an outside area, a flight or
     /// a constraint of kind 5.
     pub fn write(&self, colouring: &Colouring, form: Form) -> Result<Vec<u8>, Refusal> {
         let second = self.numbers(colouring).write_second()?;
@@ -159,7 +159,8 @@ impl Plan {
     ///
     /// 8: with place 0 there is not one sector for each region, with another that region's is not one of the plan.
     pub fn colouring(&self, sectors: impl IntoIterator<Item = u64>) -> Result<Colouring, Refusal> {
-        let mut sectors: Vec<u64> = sectors.into_iter().collect();
+        let most = self.regions().len() + 1; // one too many is refused as any number is
+        let mut sectors: Vec<u64> = sectors.into_iter().take(most).collect();
         check(self.lists(), &mut sectors)?;
         Ok(Colouring { sectors })
     }
@@ -168,7 +169,8 @@ impl Plan {
     ///
     /// # Errors
     ///
-    /// 8, where the colouring is not one of this plan.
+    /// 8, where the colouring has not one sector for each region, or one that the plan doesn't have. A colouring of another plan
+    /// that fits this one is taken.
     pub fn judge(&self, colouring: &Colouring) -> Result<Board, Refusal> {
         Board::new(self.clone(), colouring.clone())
     }

@@ -3,15 +3,27 @@
 use crate::stretches::Stretch;
 use crate::{Board, Constraint, Kind, Place, Sector, Side};
 use std::fmt;
+use std::marker::PhantomData;
 
 /// One reason why a constraint is broken. It has the constraint and its place with it, and only a
-/// [`Verdict`](crate::Verdict) makes one.
+/// [`Verdict`](crate::Verdict) makes one. It doesn't outlive the colouring that it speaks of; its text does:
+///
+/// ```compile_fail
+/// # use qirfadhun::{Board, Change};
+/// # fn after(board: &mut Board, change: Change) -> Result<(), Box<dyn std::error::Error>> {
+/// let reasons = board.verdicts().next().unwrap().reasons()?;
+/// board.make(change)?;
+/// println!("{}", reasons[0]);
+/// # Ok(())
+/// # }
+/// ```
 #[derive(Clone, Copy, Debug, PartialEq, Eq, Hash)]
-pub struct Reason {
+pub struct Reason<'b> {
     place: Place,
     constraint: Constraint,
     cause: Cause,
     part: u64,
+    board: PhantomData<&'b Board>,
 }
 
 /// What a reason is about.
@@ -60,7 +72,7 @@ pub enum Cause {
     },
 }
 
-impl Reason {
+impl Reason<'_> {
     /// The place of the constraint in its plan's list.
     #[must_use]
     pub fn place(&self) -> Place {
@@ -87,9 +99,9 @@ impl Reason {
 }
 
 /// As "Constraint 4: sector 1 has workload 60, 5 too much."
-impl fmt::Display for Reason {
+impl fmt::Display for Reason<'_> {
     fn fmt(&self, f: &mut fmt::Formatter<'_>) -> fmt::Result {
-        let Reason { place, constraint, cause, part } = self;
+        let Reason { place, constraint, cause, part, .. } = self;
         let limit = constraint.limit;
         write!(f, "Constraint {place}: ")?;
         match cause {
@@ -156,7 +168,7 @@ impl std::error::Error for Unexplained {}
 type Part = (Cause, u64);
 
 /// The reasons of a constraint on a board, held to its violation.
-pub fn reasons(board: &Board, place: Place, constraint: Constraint, violation: u64) -> Result<Vec<Reason>, Unexplained> {
+pub fn reasons(board: &Board, place: Place, constraint: Constraint, violation: u64) -> Result<Vec<Reason<'_>>, Unexplained> {
     let parts = match constraint.kind {
         Kind::Connected(_) => Some(connected(board, constraint)),
         Kind::Border => border(board, constraint),
@@ -166,7 +178,7 @@ pub fn reasons(board: &Board, place: Place, constraint: Constraint, violation: u
     };
     let parts: Option<Vec<Part>> = parts.map(|parts| parts.into_iter().filter(|&(_, part)| part > 0).collect());
     held(place, violation, parts.as_deref())?;
-    let reason = |(cause, part)| Reason { place, constraint, cause, part };
+    let reason = |(cause, part)| Reason { place, constraint, cause, part, board: PhantomData };
     Ok(parts.unwrap_or_default().into_iter().map(reason).collect())
 }
 

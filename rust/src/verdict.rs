@@ -5,8 +5,8 @@ use crate::reason::{self, Reason, Unexplained};
 use crate::{Constraint, Place};
 use std::fmt;
 
-/// The verdict on one constraint. It has the constraint and its place with it, and only a [`Board`] makes one, so that it can't
-/// be read beside another's explanation.
+/// The verdict on one constraint. It has the constraint and its place with it, prints with them, and only a [`Board`] makes one:
+/// to put it beside another's text, a program would have to take it apart.
 ///
 /// ```
 /// use qirfadhun::{Board, Place};
@@ -22,7 +22,7 @@ use std::fmt;
 /// # Ok::<(), Box<dyn std::error::Error>>(())
 /// ```
 ///
-/// A number can't stand for a place, and there is no list of bare answers to go through beside a list of texts:
+/// A number can't stand for a place, so that verdicts are not gone through by number beside a list of texts:
 ///
 /// ```compile_fail
 /// let board = qirfadhun::Board::read(&std::fs::read("../sheets/a.sheet").unwrap()).unwrap();
@@ -94,7 +94,7 @@ impl<'b> Verdict<'b> {
     ///
     /// [`Unexplained`], where the parts would not add up to the proved violation. With the archive that this crate is made for it
     /// never happens.
-    pub fn reasons(&self) -> Result<Vec<Reason>, Unexplained> {
+    pub fn reasons(&self) -> Result<Vec<Reason<'b>>, Unexplained> {
         reason::reasons(self.board, self.place, self.constraint, self.violation)
     }
 }

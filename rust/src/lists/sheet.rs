@@ -7,7 +7,7 @@ use crate::Refusal;
 /// sheet is judged with its outside areas and flights, the one in a first sheet without.
 ///
 /// Constraints are known by their place in the list, from 1; a place outside it has no answer. A constraint holds exactly when its
-/// violation is 0. [`Board::read`](crate::Board::read) has the verdicts as values that can't be taken for each other's.
+/// violation is 0. [`Board::read`](crate::Board::read) has the verdicts as values, each with its own constraint.
 ///
 /// ```
 /// use qirfadhun::lists::Sheet;

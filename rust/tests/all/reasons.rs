@@ -4,7 +4,7 @@ use crate::cases::{random_cases, Case, Code};
 use crate::plans::{sheet_a, sheet_a_with_both, sheet_a_with_flights, sheet_a_with_outside, whole_plan, Numbers};
 use crate::reference::{distance, Meaning, Plan, Visit, CALL_KINDS};
 use crate::typed::{board, built, region, sector};
-use qirfadhun::{Board, Cause, Change, Flight, Reason, Sector, Side, Stretch, Verdict};
+use qirfadhun::{Board, Cause, Change, Flight, Reason, Sector, Side, Stretch};
 
 /// What is off and its part, worked out by the reference from documents 01 and 02.
 fn due(plan: &Plan, meaning: &Meaning, place: usize) -> Vec<(Cause, u64)> {
@@ -118,8 +118,8 @@ fn random_plans() {
 
 /// What a board says of all that is broken.
 fn said(board: &Board) -> Vec<String> {
-    let reasons = |verdict: Verdict| verdict.reasons().expect("reasons that add up");
-    board.verdicts().flat_map(reasons).map(|reason| reason.to_string()).collect()
+    let reasons = board.verdicts().flat_map(|verdict| verdict.reasons().expect("reasons that add up"));
+    reasons.map(|reason| reason.to_string()).collect()
 }
 
 #[test]

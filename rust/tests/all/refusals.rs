@@ -195,6 +195,34 @@ fn colourings() {
     hold(plan.colouring([1, 1, 0, 1, u64::MAX]).expect_err("no sector"), 8, 3);
 }
 
+/// Lists without an end are refused as lists that are too long.
+#[test]
+fn lists_without_end() {
+    let (plan, _) = built(&sheet_a()).expect("sheet A");
+    hold(plan.colouring(std::iter::repeat(1)).expect_err("no end"), 8, 0);
+    let colouring: Colouring = std::iter::repeat(sector(1)).collect();
+    hold(plan.judge(&colouring).expect_err("no end"), 8, 0);
+    let visit = (region(1), Seconds(1));
+    hold(plan.to_builder().flight(std::iter::repeat(visit)).build().expect_err("no end"), 13, 1);
+}
+
+/// An iterator that says that it is far longer than it is.
+#[test]
+fn a_list_that_boasts() {
+    struct Boasting(std::vec::IntoIter<Move>);
+    impl Iterator for Boasting {
+        type Item = Move;
+        fn next(&mut self) -> Option<Move> {
+            self.0.next()
+        }
+        fn size_hint(&self) -> (usize, Option<usize>) {
+            (usize::MAX, None)
+        }
+    }
+    let mut board = board(&sheet_a());
+    assert_eq!(board.run(Boasting(vec![Move::Ask(region(3)); 3].into_iter())).count(), 3);
+}
+
 /// The first form refuses what it would have to leave out.
 #[test]
 fn the_first_form() {

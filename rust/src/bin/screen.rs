@@ -1,7 +1,7 @@
 //! A small planning screen: prints the verdicts of either sheet, with a sentence for each and the reasons where it is broken, sends
 //! a flight over a border, and tries a short list of moves.
 //!
-//! `cargo run --example screen ../sheets/a.sheet`
+//! `cargo run ../sheets/a.sheet`
 
 use qirfadhun::{Board, Change, Constraint, Kind, Move, Plan, Region, Relation, Row, Seconds, Sector};
 use std::error::Error;
