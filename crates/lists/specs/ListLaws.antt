@@ -1,12 +1,12 @@
--- Laws of a list that a function of 0, 1, 2, .. gives, of one that is stored in parts, and of one value repeated.
+-- Laws of a list that a function of 0, 1, 2, .. gives, and of one that is stored in parts.
 -- Assumes nothing.
-use Prim.Native.Nat.{ℕ, zero, suc, _+_, _-_, _≤_, _<_}
+use Prim.Native.Nat.{ℕ, zero, suc, _+_, _<_}
 use native.Mathlib.Nat.{le-of-suc-le-suc, not-suc-le-zero, zero-add, add-zero, add-suc, suc-add}
 use native.Mathlib.Omega.{arith}
 use mathlib.Core.Path.{_≡_, refl, sym, ap, _∙_}
 use mathlib.Core.List.{List, [], _∷_, _++_, map}
-use lib.ListN.{length, getD, set, take, drop, replicate, length-map, length-replicate, replicate-append-replicate}
-use lib.Seq.{sets, take-at, getD-drop}
+use lib.ListN.{length, getD, set, drop, length-map}
+use lib.Seq.{sets, getD-drop}
 use Rattle.lists.specs.Sums.{from, listOf, Every}
 use Rattle.lists.specs.SumLaws.{length-from, from-every, every-from, every-map}
 
@@ -62,9 +62,3 @@ module _ {A : Type 0} where
   pub getD-listOf : (n : ℕ) (f : ℕ → A) (d : A) (k : ℕ) → k < n → getD (listOf n f) k d ≡ f k
   getD-listOf n f d k h =
       sym (rw add-zero at (getD-drop k (listOf n f) 0 d)) ∙ ap (λ l. getD l 0 d) (drop-listOf n f k h)
-
-  -- the front of a list of one value is a shorter one
-  pub take-replicate : (n N : ℕ) (a : A) → n ≤ N → take n (replicate N a) ≡ replicate n a
-  take-replicate n N a h =
-      let e : n + (N - n) ≡ N = omega arith in
-      rw (← e, ← replicate-append-replicate n (N - n) a) (take-at (replicate n a) (replicate (N - n) a) n (length-replicate n a))
