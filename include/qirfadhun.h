@@ -11,7 +11,8 @@
  * `memset`. Header and archive belong together: no linker notices that a call has a list more than its declaration.
  *
  * Lists. A list is a pointer to its first item and a length, which counts items, not bytes. What each list holds stands below.
- * - A list of length 0 may have any pointer, also NULL; it is never followed.
+ * - A list of length 0 may have any pointer; it is never followed. NULL was tried, for each list of sctr_call, sctr_write and
+ *   sctr_write_second by itself, and in every other call for some.
  * - Any other list has to be there in its whole length, aligned as C has it for its items. No call looks beyond it.
  * - A list that is written, the one with no `const`, must not overlap any other list of the same call. Lists that are only read
  *   may overlap each other.
