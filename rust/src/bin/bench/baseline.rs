@@ -1,12 +1,23 @@
-//! The baseline: what an expert writes in plain Rust. Neighbours in compressed rows of small numbers, marks with stamps, a queue,
-//! a search that stops as soon as it knows, one running sum for each constraint, for each flight what it adds to the total. It is
-//! spared the refusals, the verdicts and the work memory.
+//! The baseline: the whole call as an expert writes it in plain Rust. Neighbours in compressed rows of small numbers, marks with
+//! stamps, a queue, a search that stops as soon as it knows, one running sum for each constraint, for each flight what it adds to the
+//! total; and before them the refusals, after them the verdicts and the work memory.
 
 use crate::plans::distance;
+use crate::refusals::{status, Call, Refused};
 use qirfadhun::lists::Numbers;
 
 fn excess(n: u32) -> u64 {
     n.saturating_sub(1) as u64
+}
+
+/// The violation of constraint k, from 0, but for kind 5.
+fn violation(k: usize, q: &[u64], all: u64, excess: u64, border: u64, deviation: u64, bounded: &[u64; 16]) -> u64 {
+    match q[0] {
+        1 => excess + (distance(q[1], all, q[2]) != 0) as u64,
+        2 => border.saturating_sub(q[2]),
+        3 => deviation.saturating_sub(q[2]),
+        _ => bounded[k],
+    }
 }
 
 fn smallest_joined(plan: &Numbers, sector_of: &[u8]) -> Vec<u16> {
@@ -206,13 +217,7 @@ impl<'a> Engine<'a> {
     fn total_of(&self, all: u64, excess: u64, border: u64, deviation: u64, bounded: &[u64; 16], dwell: u64) -> u64 {
         let mut total = dwell;
         for (k, q) in self.plan.constraints.chunks(4).enumerate() {
-            let violation = match q[0] {
-                1 => excess + (distance(q[1], all, q[2]) != 0) as u64,
-                2 => border.saturating_sub(q[2]),
-                3 => deviation.saturating_sub(q[2]),
-                _ => bounded[k],
-            };
-            total += q[3] * violation;
+            total += q[3] * violation(k, q, all, excess, border, deviation, bounded);
         }
         total
     }
@@ -456,15 +461,48 @@ impl<'a> Engine<'a> {
         self.recolour(v, c, true);
         [0, total as i64 - before as i64, before as i64, 0]
     }
+
+    /// A verdict for each constraint.
+    fn put_verdicts(&mut self, verdicts: &mut [u64]) {
+        for ((k, q), verdict) in self.plan.constraints.chunks(4).enumerate().zip(verdicts.chunks_mut(2)) {
+            let v = if q[0] == 5 {
+                self.flights.timed = vec![[5, q[1], q[2], 1]];
+                (0..self.flights.price.len()).map(|k| self.flights.price_of(k, &self.sector_of, None)).sum()
+            } else {
+                violation(k, q, self.all, self.excess, self.border, self.deviation, &self.bounded)
+            };
+            verdict.copy_from_slice(&[(v == 0) as u64, v]);
+        }
+    }
+
+    /// The labels, the component counts, the workload sums and the border.
+    fn put_work(&self, work: &mut [u64]) {
+        let labels = self.label[1..].iter().map(|&l| l as u64);
+        let components = self.components[1..].iter().map(|&n| n as u64);
+        let numbers = labels.chain(components).chain(self.workload[1..].iter().copied()).chain([self.border]);
+        for (place, number) in work.iter_mut().zip(numbers) {
+            *place = number;
+        }
+    }
 }
 
-/// Takes the moves in turn, writes their rows, and leaves the last colouring.
-pub fn call(plan: &Numbers, colouring: &mut [u64], moves: &[u64], rows: &mut [i64]) {
+/// Judges, takes the moves in turn and judges again; answers the first and the last total.
+pub fn call(call: Call) -> Result<(u64, u64), Refused> {
+    call.refusal()?;
+    let Call { plan, colouring, moves, rows, verdicts, work } = call;
     let mut engine = Engine::new(plan, colouring);
+    let first = engine.total;
     for (m, row) in moves.chunks(3).zip(rows.chunks_mut(4)) {
-        row.copy_from_slice(&engine.step(m[0], m[1] as usize, m[2]));
+        let answer = match status(plan.regions, plan.sectors, m[0], m[1], m[2]) {
+            0 => engine.step(m[0], m[1] as usize, m[2]),
+            status => [status, 0, engine.total as i64, 0],
+        };
+        row.copy_from_slice(&answer);
     }
     for (c, &sector) in colouring.iter_mut().zip(&engine.sector_of[1..]) {
         *c = sector as u64;
     }
+    engine.put_verdicts(verdicts);
+    engine.put_work(work);
+    Ok((first, engine.total))
 }

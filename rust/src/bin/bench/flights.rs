@@ -1,12 +1,10 @@
 //! Plans with as many flights as there can be: nanoseconds a move with one and with two constraints on them, and what flights cost
 //! that no constraint asks about.
 
-use crate::plans::{self, Random};
-use crate::{measure, print, print_head, proved, run, LIST, RUNS};
+use crate::plans::{self, Random, LISTS};
+use crate::{measure, print, print_head, proved, LIST, SEED};
 use qirfadhun::limits::{MOST_FLIGHTS, MOST_VISITS};
 use qirfadhun::lists::Numbers;
-
-const LISTS: [(&str, &[u64]); 3] = [("probes", &[1]), ("made moves", &[2]), ("questions", &[5])];
 
 /// Each stretch of two minutes or more, and of half an hour or less; with the places, from 0, of the constraints of kind 4 that they
 /// take.
@@ -25,7 +23,7 @@ impl Flown {
         let none = plans::grid(random, 16, 32, sectors);
         let mut flown = none.clone();
         plans::fly(random, &mut flown, MOST_FLIGHTS, MOST_VISITS);
-        let mut lists = LISTS.map(|(name, kinds)| (name, plans::moves(random, &none, kinds, LIST))).to_vec();
+        let mut lists: Vec<_> = LISTS.iter().map(|list| (list.name, list.moves(random, &none, LIST))).collect();
         lists.push(("empty list", vec![]));
         Flown { sectors, none, flown, lists }
     }
@@ -40,26 +38,8 @@ impl Flown {
     }
 }
 
-/// The shortest time, in nanoseconds, of the proved library on either plan, by turns.
-fn measure_both(plans: [&Numbers; 2], moves: &[u64]) -> [f64; 2] {
-    let mut best = [f64::MAX; 2];
-    for _ in 0..RUNS {
-        let [one, other] = [0, 1].map(|which| run(proved, plans[which], moves, &mut best[which]));
-        assert!(one == other, "flights that no constraint asks about change what is left");
-    }
-    best
-}
-
-fn unit(moves: &[u64]) -> &'static str {
-    if moves.is_empty() {
-        "ns a call"
-    } else {
-        "ns a move"
-    }
-}
-
 pub fn print_all() {
-    let mut random = Random(88172645463325252);
+    let mut random = Random(SEED);
     let all = [64, 8, 2].map(|sectors| Flown::new(&mut random, sectors));
     println!();
     print_head(&format!("{MOST_FLIGHTS} flights of {MOST_VISITS} visits, constraints of kind 5 among the 16"));
@@ -67,8 +47,7 @@ pub fn print_all() {
         for (count, so_many) in [(1, "one"), (2, "two")] {
             let plan = flown.timed(count);
             for (name, moves) in &flown.lists {
-                let name = format!("{} sectors, {so_many} of kind 5, {name}", flown.sectors);
-                print(&name, unit(moves), measure(&plan, moves), moves.len() / 3);
+                print(&format!("{} sectors, {so_many} of kind 5, {name}", flown.sectors), &plan, moves);
             }
         }
     }
@@ -77,8 +56,8 @@ pub fn print_all() {
     println!("|---|---|---|---|");
     for Flown { sectors, none, flown, lists } in &all {
         for (name, moves) in lists {
-            let [none, flown] = measure_both([none, flown], moves).map(|time| time / (moves.len() / 3).max(1) as f64);
-            println!("| {sectors} sectors, {name} | {none:.0} | {flown:.0} {} | {:.2} |", unit(moves), flown / none);
+            let [none, flown] = measure([(proved, none), (proved, flown)], moves).map(|t| t / (moves.len() / 3).max(1) as f64);
+            println!("| {sectors} sectors, {name} | {none:.0} | {flown:.0} | {:.2} |", flown / none);
         }
     }
 }

@@ -1,129 +1,148 @@
-//! Nanoseconds a move of the proved library, of the baseline and of the library's own method in plain Rust, on the same plans and
-//! lists, one after the other in one run, without flights and then with them. The rows of all three are compared. Between them the
-//! typed board beside the flat call, after them the reading, the writing and the conversion of sheets.
+//! Nanoseconds a move of the proved library and of the whole call in plain Rust, on the same plans and lists, by turns in one run,
+//! without flights and then with them; all that both leave is compared. Between them the typed board beside the flat call, after
+//! them the reading, the writing and the conversion of sheets.
 //!
-//! `bench typed` prints the board's tables alone.
+//! `bench calls` prints the tables on calls alone, `bench typed` the board's.
 
 mod baseline;
 mod flights;
 mod plain_sheet;
 mod plans;
-mod same_flights;
-mod same_method;
+mod refusals;
 mod sheets;
 mod typed;
 
-use plans::Random;
+use plans::{Random, LISTS};
 use qirfadhun::lists::Numbers;
-use std::time::Instant;
+use refusals::Call;
+use std::time::{Duration, Instant};
 
+const SEED: u64 = 88172645463325252;
 const LIST: usize = 4096;
+const FEW: usize = 16;
 const RUNS: usize = 40;
 
-const LISTS: [(&str, &[u64]); 6] = [
-    ("probes", &[1]),
-    ("made moves", &[2]),
-    ("exchange probes", &[3]),
-    ("exchanges", &[4]),
-    ("mix", &[1, 2, 3, 4]),
-    ("questions", &[5]),
-];
+/// How long one list is measured, and the least and the most runs.
+const LONG: Duration = Duration::from_millis(400);
+const LEAST_RUNS: usize = 15;
+const MOST_RUNS: usize = 400;
 
-/// What a call leaves.
+/// What a call answers and leaves.
 #[derive(PartialEq)]
 struct Left {
+    totals: (u64, u64),
     colouring: Vec<u64>,
     rows: Vec<i64>,
+    verdicts: [u64; 32],
+    work: Vec<u64>,
 }
 
-fn empty(plan: &Numbers, moves: &[u64]) -> Left {
-    Left { colouring: plan.colouring.clone(), rows: vec![0; moves.len() / 3 * 4] }
+impl Left {
+    fn new(plan: &Numbers, moves: &[u64]) -> Self {
+        Left {
+            totals: (0, 0),
+            colouring: plan.colouring.clone(),
+            rows: vec![0; moves.len() / 3 * 4],
+            verdicts: [0; 32],
+            work: vec![0; (plan.regions + 2 * plan.sectors + 1) as usize],
+        }
+    }
 }
 
-fn baseline(plan: &Numbers, moves: &[u64], left: &mut Left) {
-    baseline::call(plan, &mut left.colouring, moves, &mut left.rows);
-}
+type Judge = fn(&Numbers, &[u64], &mut Left);
 
-fn same_method(plan: &Numbers, moves: &[u64], left: &mut Left) {
-    let answer = same_method::call(same_method::Call {
-        regions: plan.regions,
-        sectors: plan.sectors,
-        workloads: &plan.workloads,
-        outside: &plan.outside,
-        edges: &plan.edges,
-        counts: &plan.counts,
-        visits: &plan.visits,
-        constraints: &plan.constraints,
-        colouring: &mut left.colouring,
-        moves,
-        rows: &mut left.rows,
-        verdicts: &mut [0; 32],
-        work: &mut [0; 641],
-    });
-    assert!(answer.is_ok());
+fn plain(plan: &Numbers, moves: &[u64], left: &mut Left) {
+    let Left { totals, colouring, rows, verdicts, work } = left;
+    *totals = baseline::call(Call { plan, colouring, moves, rows, verdicts, work }).expect("a good call");
 }
 
 fn proved(plan: &Numbers, moves: &[u64], left: &mut Left) {
-    let answer = plan.call_on(&mut left.colouring, moves, &mut left.rows, &mut [0; 32], &mut [0; 641]);
-    assert!(answer.is_ok());
+    let Left { totals, colouring, rows, verdicts, work } = left;
+    let answer = plan.call_on(colouring, moves, rows, verdicts, work).expect("a good call");
+    *totals = (answer.first, answer.last);
 }
 
-/// What a call leaves; `best` is the shortest time so far, in nanoseconds.
-fn run(call: fn(&Numbers, &[u64], &mut Left), plan: &Numbers, moves: &[u64], best: &mut f64) -> Left {
-    let mut left = empty(plan, moves);
+/// What `times` calls leave, each on the plan's own colouring; `best` is the shortest time of a call so far, in nanoseconds. A short
+/// call is measured many at a time, so that the clock doesn't count.
+fn run(call: Judge, plan: &Numbers, moves: &[u64], times: u32, best: &mut f64) -> Left {
+    let mut left = Left::new(plan, moves);
     let start = Instant::now();
-    call(plan, moves, &mut left);
-    *best = best.min(start.elapsed().as_nanos() as f64);
+    for _ in 0..times {
+        left.colouring.copy_from_slice(&plan.colouring);
+        call(plan, moves, &mut left);
+    }
+    *best = best.min(start.elapsed().as_nanos() as f64 / times as f64);
     left
 }
 
-/// The shortest time, in nanoseconds, of each of the three on one list.
-fn measure(plan: &Numbers, moves: &[u64]) -> [f64; 3] {
-    let calls = [baseline, same_method, proved];
-    let mut best = [f64::MAX; 3];
-    for _ in 0..RUNS {
-        let lefts: Vec<Left> = calls.into_iter().zip(&mut best).map(|(call, best)| run(call, plan, moves, best)).collect();
-        assert!(lefts.iter().all(|l| *l == lefts[2]), "the three differ");
+/// The shortest time of a call, in nanoseconds, of each of some calls on one list, by turns.
+fn measure<const N: usize>(calls: [(Judge, &Numbers); N], moves: &[u64]) -> [f64; N] {
+    let times = if moves.len() <= 3 * FEW { 20 } else { 1 };
+    let mut best = [f64::MAX; N];
+    let begun = Instant::now();
+    for turn in 0..MOST_RUNS {
+        if turn >= LEAST_RUNS && begun.elapsed() > LONG {
+            break;
+        }
+        let lefts: Vec<Left> =
+            calls.iter().zip(&mut best).map(|(&(call, plan), best)| run(call, plan, moves, times, best)).collect();
+        assert!(lefts.iter().all(|l| *l == lefts[0]), "what is left differs");
     }
     best
 }
 
-fn print_head(plans: &str) {
-    println!("| {plans} | baseline | same method | proved | to baseline | to same method |");
-    println!("|---|---|---|---|---|---|");
+/// Nanoseconds of plain Rust and of the proved library on one list: a move's, or, where there are none, a call's.
+fn print(name: &str, plan: &Numbers, moves: &[u64]) {
+    let [plain, proved] = measure([(plain, plan), (proved, plan)], moves).map(|t| t / (moves.len() / 3).max(1) as f64);
+    println!("| {name} | {plain:.0} | {proved:.0} | {:.2} |", proved / plain);
 }
 
-fn print(name: &str, unit: &str, times: [f64; 3], moves: usize) {
-    let [baseline, same, proved] = times.map(|t| t / moves.max(1) as f64);
-    println!("| {name} | {baseline:.0} | {same:.0} | {proved:.0} {unit} | {:.2} | {:.2} |", proved / baseline, proved / same);
+fn print_head(plans: &str) {
+    println!("| {plans} | plain Rust | proved | ratio |");
+    println!("|---|---|---|---|");
+}
+
+/// All lists of `n` moves on a plan, and the empty list.
+fn print_lists(name: &str, random: &mut Random, plan: &Numbers, n: usize) {
+    for list in &LISTS {
+        let moves = list.moves(random, plan, n);
+        print(&format!("{name}, {}", list.name), plan, &moves);
+    }
+    print(&format!("{name}, empty list"), plan, &[]);
+}
+
+fn print_calls() {
+    let mut random = Random(SEED);
+    print_head("512 regions, 16 constraints, lists of 4,096 moves");
+    for sectors in [64, 8, 2] {
+        let plan = plans::grid(&mut random, 16, 32, sectors);
+        print_lists(&format!("{sectors} sectors"), &mut random, &plan, LIST);
+    }
+    println!();
+    print_head("40 regions, 6 sectors, 16 constraints, lists of 16 moves");
+    let plan = plans::grid(&mut random, 5, 8, 6);
+    print_lists("40 regions", &mut random, &plan, FEW);
+    println!();
+    print_head("probes without the call's start");
+    for (height, width, sectors) in [(8, 16, 16), (16, 32, 64)] {
+        let plan = plans::grid(&mut random, height, width, sectors);
+        let moves = LISTS[0].moves(&mut random, &plan, LIST);
+        let calls: [(Judge, &Numbers); 2] = [(plain, &plan), (proved, &plan)];
+        let (whole, start) = (measure(calls, &moves), measure(calls, &[]));
+        let [plain, proved] = [0, 1].map(|which| (whole[which] - start[which]) / LIST as f64);
+        println!("| {} regions in {sectors} sectors | {plain:.0} | {proved:.0} | {:.2} |", height * width, proved / plain);
+    }
+    flights::print_all();
 }
 
 fn main() {
-    if std::env::args().nth(1).as_deref() == Some("typed") {
-        return typed::print_all();
-    }
-    let mut random = Random(88172645463325252);
-    print_head("512 regions, 16 constraints");
-    for sectors in [64, 8, 2] {
-        let plan = plans::grid(&mut random, 16, 32, sectors);
-        for (name, kinds) in LISTS {
-            let moves = plans::moves(&mut random, &plan, kinds, LIST);
-            print(&format!("{sectors} sectors, {name}"), "ns a move", measure(&plan, &moves), LIST);
+    match std::env::args().nth(1).as_deref() {
+        Some("typed") => typed::print_all(),
+        Some("calls") => print_calls(),
+        _ => {
+            print_calls();
+            typed::print_all();
+            sheets::print_all();
         }
-        print(&format!("{sectors} sectors, empty list"), "ns a call", measure(&plan, &[]), 0);
     }
-    for (height, width, sectors) in [(8, 16, 16), (16, 32, 64)] {
-        let plan = plans::grid(&mut random, height, width, sectors);
-        let moves = plans::moves(&mut random, &plan, &[1], LIST);
-        let empty = measure(&plan, &[]);
-        let mut times = measure(&plan, &moves);
-        for (time, empty) in times.iter_mut().zip(empty) {
-            *time -= empty;
-        }
-        let name = format!("{} regions in {sectors} sectors, probes without the call's start", height * width);
-        print(&name, "ns a move", times, LIST);
-    }
-    typed::print_all();
-    flights::print_all();
-    sheets::print_all();
 }

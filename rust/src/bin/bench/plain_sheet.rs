@@ -1,7 +1,7 @@
 //! Either sheet read, written and converted in plain Rust: the same checks in the same order, each sum of a block's check reduced
 //! once.
 
-use crate::same_method::{plan_refusal, Refused};
+use crate::refusals::{plan_refusal, Refused};
 use qirfadhun::lists::Numbers;
 
 const BLOCK: usize = 512;

@@ -106,25 +106,62 @@ pub fn fly(random: &mut Random, plan: &mut Numbers, flights: usize, visits: usiz
     }
 }
 
-/// A list of `n` moves of the kinds given, in no order: a region at an edge is given to its neighbour's sector or to any, or exchanged
-/// with a neighbour of another sector.
-pub fn moves(random: &mut Random, plan: &Numbers, kinds: &[u64], n: usize) -> Vec<u64> {
-    let ends: Vec<_> = ends(plan).collect();
-    let borders: Vec<_> = ends.iter().copied().filter(|&(a, b)| plan.colouring[a] != plan.colouring[b]).collect();
-    let mut list = vec![];
-    for _ in 0..n {
-        let kind = kinds[random.below(kinds.len() as u64) as usize];
-        let from = if kind == 3 || kind == 4 { &borders } else { &ends };
-        let (a, b) = from[random.below(from.len() as u64) as usize];
-        let second = match kind {
-            1 | 2 if random.below(2) == 0 => plan.colouring[b],
-            1 | 2 => 1 + random.below(plan.sectors),
-            3 | 4 => b as u64 + 1,
-            _ => 0,
-        };
-        list.extend([kind, a as u64 + 1, second]);
+/// What a list is made of: how often each kind of move stands in it, of a hundred, and whether recolourings go to a neighbour's sector
+/// across a border, as a search proposes them, or half of them to a neighbour's and half to any.
+pub struct List {
+    pub name: &'static str,
+    pub kinds: &'static [(u64, u64)],
+    pub across: bool,
+}
+
+const fn list(name: &'static str, kinds: &'static [(u64, u64)]) -> List {
+    List { name, kinds, across: false }
+}
+
+/// The lists that are measured.
+pub const LISTS: [List; 8] = [
+    list("probes", &[(1, 100)]),
+    List { name: "probes at borders", kinds: &[(1, 100)], across: true },
+    list("made moves", &[(2, 100)]),
+    list("exchange probes", &[(3, 100)]),
+    list("exchanges", &[(4, 100)]),
+    list("mix", &[(1, 25), (2, 25), (3, 25), (4, 25)]),
+    List { name: "a search", kinds: &[(1, 90), (2, 8), (4, 2)], across: true },
+    list("questions", &[(5, 100)]),
+];
+
+impl List {
+    fn kind(&self, random: &mut Random) -> u64 {
+        let mut left = random.below(100);
+        for &(kind, often) in self.kinds {
+            if left < often {
+                return kind;
+            }
+            left -= often;
+        }
+        unreachable!("the kinds of a list make a hundred")
     }
-    list
+
+    /// `n` moves: a region at an edge is given to a sector, exchanged with a neighbour of another sector, or asked about.
+    pub fn moves(&self, random: &mut Random, plan: &Numbers, n: usize) -> Vec<u64> {
+        let ends: Vec<_> = ends(plan).collect();
+        let borders: Vec<_> = ends.iter().copied().filter(|&(a, b)| plan.colouring[a] != plan.colouring[b]).collect();
+        let mut moves = vec![];
+        for _ in 0..n {
+            let kind = self.kind(random);
+            let from = if self.across || kind == 3 || kind == 4 { &borders } else { &ends };
+            let (one, other) = from[random.below(from.len() as u64) as usize];
+            let (a, b) = if random.below(2) == 0 { (one, other) } else { (other, one) };
+            let second = match kind {
+                1 | 2 if self.across || random.below(2) == 0 => plan.colouring[b],
+                1 | 2 => 1 + random.below(plan.sectors),
+                3 | 4 => b as u64 + 1,
+                _ => 0,
+            };
+            moves.extend([kind, a as u64 + 1, second]);
+        }
+        moves
+    }
 }
 
 /// How far x is from standing in the relation to the limit.

@@ -1,8 +1,8 @@
 //! The typed board beside the flat call on the same lists, by turns and in memory that both use again: nanoseconds a move until the
 //! rows are there, and until they are read. Then a probe in a list beside a probe in a call of its own.
 
-use crate::plans::{self, Random};
-use crate::{LIST, LISTS, RUNS};
+use crate::plans::{self, Random, LISTS};
+use crate::{LIST, RUNS, SEED};
 use qirfadhun::lists::Numbers;
 use qirfadhun::{Board, Change, Colouring, Move, Plan, Region, Sector};
 use std::hint::black_box;
@@ -102,21 +102,21 @@ fn measure_alone(plan: &Numbers, moves: &[u64]) -> [f64; 2] {
 }
 
 pub fn print_all() {
-    let mut random = Random(88172645463325252);
+    let mut random = Random(SEED);
     let all = [64, 8, 2].map(|sectors| plans::grid(&mut random, 16, 32, sectors));
     println!();
     println!("| 512 regions, lists of {LIST} moves | flat call | board | to flat | read: flat call | board | to flat |");
     println!("|---|---|---|---|---|---|---|");
     let mut worst: [f64; 2] = [0.0; 2];
     for plan in &all {
-        for (name, kinds) in LISTS {
-            let moves = plans::moves(&mut random, plan, kinds, LIST);
+        for list in &LISTS {
+            let moves = list.moves(&mut random, plan, LIST);
             let [flat, board] = measure(plan, &moves).map(|times| times.map(|time| time / LIST as f64));
             let ratios = [board[0] / flat[0], board[1] / flat[1]];
             worst = [worst[0].max(ratios[0]), worst[1].max(ratios[1])];
             println!(
-                "| {} sectors, {name} | {:.1} | {:.1} ns a move | {:.3} | {:.1} | {:.1} ns a move | {:.3} |",
-                plan.sectors, flat[0], board[0], ratios[0], flat[1], board[1], ratios[1]
+                "| {} sectors, {} | {:.1} | {:.1} ns a move | {:.3} | {:.1} | {:.1} ns a move | {:.3} |",
+                plan.sectors, list.name, flat[0], board[0], ratios[0], flat[1], board[1], ratios[1]
             );
         }
     }
@@ -125,7 +125,7 @@ pub fn print_all() {
     println!("| a probe on a board, 512 regions | in a list of {LIST} | in a call of its own | to the list |");
     println!("|---|---|---|---|");
     for plan in &all {
-        let moves = plans::moves(&mut random, plan, &[1], LIST);
+        let moves = LISTS[0].moves(&mut random, plan, LIST);
         let [list, alone] = measure_alone(plan, &moves);
         println!("| {} sectors | {list:.0} | {alone:.0} ns | {:.0} |", plan.sectors, alone / list);
     }
