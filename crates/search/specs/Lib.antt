@@ -9,5 +9,6 @@ pub mod Counting
 pub mod Searching
 pub mod Touches
 pub mod FaceAreas
+pub mod Same
 pub mod Weighing
 pub mod Looking

@@ -20,6 +20,7 @@ use Rattle.search.specs.Marks.{mark}
 use Rattle.search.specs.Flood.{Ready}
 use Rattle.search.specs.Counting.{Counting}
 use Rattle.search.specs.FaceAreas.{area-lift}
+use Rattle.search.specs.Same.{Comparable}
 use Rattle.search.specs.Weighing.{Weighable}
 
 -- what a count of the pieces of v's component starts from: the array of neighbours, a colouring without marks, room in the queue, and a region
@@ -98,6 +99,10 @@ module _ {R : ℕ} {edges : List Edge} {start nb ar col queue : List ℕ} {v d :
     -- the areas of v's edges may be added up
     pub looking-weighable : Weighable R edges start nb ar col′ v
     looking-weighable = record { table = k .table; few = k .few; limits = k .limits; size = ap length same ∙ k .size; region = k .region }
+
+    -- and its neighbours' sectors compared with its own and with d
+    pub looking-comparable : Comparable R col′ (at col v) d
+    looking-comparable = record { shown = λ u i. rw same (k .sectors u i); one = k .sectors v (k .region); other = k .sector }
 
     -- what is counted and added up is what v meets
     pub looking-meets : {joined here there : ℕ} → joined ≡ beside edges col v d → (here ≡ areaTo edges col′ v (at col v)) × (there ≡ areaTo edges col′ v d)

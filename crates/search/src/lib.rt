@@ -1,6 +1,6 @@
 // What a recolouring touches: the pieces its region leaves, the components it joins, the areas of its faces; by a search that stops early.
 ghost use mathlib.Core.Path.{_≡_};
-ghost use Prim.Native.Nat.{_-_, _≤_};
+ghost use Prim.Native.Nat.{_-_, _≤_, _<_};
 ghost use lib.ListN.{length};
 ghost use lib.Dec.{eqb};
 ghost use mathlib.Core.Bool.{cond, not};
@@ -14,6 +14,7 @@ ghost use Rattle.search.specs.Flood.{Flood};
 ghost use Rattle.search.specs.Scan.{Span, Scan};
 ghost use Rattle.search.specs.Expanding.{Expandable, Expanded};
 ghost use Rattle.search.specs.Counting.{Counting};
+ghost use Rattle.search.specs.Same.{Comparable};
 ghost use Rattle.search.specs.Weighing.{Weighable};
 ghost use Rattle.search.specs.Looking.{Lifting, Looking, Meets, Looked};
 
@@ -166,11 +167,22 @@ fn touching(
     e
 }
 
+// 1 where two sectors are the same, and otherwise 0: by arithmetic, since a choice in a loop becomes a branch that can't be foretold.
+fn same(shown: u64, sector: u64) -> u64
+    requires { ⌜ shown < 256 ⌝ }
+    requires { ⌜ sector < 256 ⌝ }
+    ensures { λ r. ⌜ r ≡ bit (eqb shown sector) ⌝ }
+{
+    (256 - (shown ^ sector)) >> 8
+}
+
 // The area where a region shows the sector, and otherwise 0.
 fn part(shown: u64, sector: u64, area: u64) -> u64
+    requires { ⌜ shown < 256 ⌝ }
+    requires { ⌜ sector < 256 ⌝ }
     ensures { λ r. ⌜ r ≡ cond (eqb shown sector) area 0 ⌝ }
 {
-    if shown == sector { area } else { 0 }
+    area * same(shown, sector)
 }
 
 // The areas of a region's edges to its own sector and to another.
@@ -191,6 +203,7 @@ fn areas_of(
     sector: u64,
 ) -> Areas
     requires { ⌜ Weighable (length (now start) - 1) (edgesOf (now edges)) (now start) (now near) (now areas) (now colouring) region ⌝ }
+    requires { ⌜ Comparable (length (now start) - 1) (now colouring) own sector ⌝ }
     ensures { λ r. ⌜ r .here ≡ areaTo (edgesOf (now (edges .entry))) (now (colouring .entry)) region own ⌝ }
     ensures { λ r. ⌜ r .there ≡ areaTo (edgesOf (now (edges .entry))) (now (colouring .entry)) region sector ⌝ }
 {

@@ -2,7 +2,6 @@
 use Prim.Native.Nat.{ℕ, _-_}
 use native.Mathlib.Omega.{arith}
 use mathlib.Core.List.{List}
-use borrow.Author.Needs.{needs}
 use lib.Dec.{eqb}
 use lib.ListN.{length, getD}
 use Rattle.lists.specs.Sums.{at}
@@ -24,23 +23,27 @@ Inv-loop edges start near areas colouring region own sector last j₀ here₀ th
 abbrev μ-loop : tie.MeasureT-loop
 μ-loop edges start near areas colouring region own sector last j₀ here₀ there₀ j here there = getD start region 0 - j
 
+-- from inside the loop to where all began
+abbrev began : tie.In-loop Inv-loop μ-loop → tie.Start Inv-loop μ-loop
+began c = c .before .before .before .before .before .before .before .before .before
+
 mul-last : tie.Need-mul-last Inv-loop μ-loop
-mul-last c = omega (arith, weighable-row (c .before .before .before .before .before .pre))
+mul-last c = omega (arith, weighable-row (c .before .before .before .before .before .pre .0))
 
 shared-slice-read-last : tie.Need-shared-slice-read-last Inv-loop μ-loop
-shared-slice-read-last c = omega (arith, weighable-row (c .before .before .before .before .before .before .pre))
+shared-slice-read-last c = omega (arith, weighable-row (c .before .before .before .before .before .before .pre .0))
 
 sub-j : tie.Need-sub-j Inv-loop μ-loop
-sub-j c = omega (arith, weighable-row (c .before .before .before .before .before .before .pre))
+sub-j c = omega (arith, weighable-row (c .before .before .before .before .before .before .pre .0))
 
 mul-j : tie.Need-mul-j Inv-loop μ-loop
-mul-j c = omega (arith, weighable-row (c .before .before .before .before .before .before .pre))
+mul-j c = omega (arith, weighable-row (c .before .before .before .before .before .before .pre .0))
 
 shared-slice-read-j : tie.Need-shared-slice-read-j Inv-loop μ-loop
-shared-slice-read-j c = omega (arith, weighable-row (c .before .before .before .before .before .before .before .pre))
+shared-slice-read-j c = omega (arith, weighable-row (c .before .before .before .before .before .before .before .pre .0))
 
 loop-holds : tie.Need-loop-holds Inv-loop μ-loop
-loop-holds c = let g = c .before .before .before .before .before .before .before .pre in (weighing-start g, weighing-start g)
+loop-holds c = let g = c .before .before .before .before .before .before .before .pre .0 in (weighing-start g, weighing-start g)
 
 mul-z : tie.Need-mul-z Inv-loop μ-loop
 mul-z c = omega (arith, weighable-row (c .before .loop .inv .0 .given))
@@ -64,7 +67,10 @@ shared-slice-read-shown : tie.Need-shared-slice-read-shown Inv-loop μ-loop
 shared-slice-read-shown c = omega (arith, weighing-in (c .before .before .before .before .loop .inv .0) (c .before .before .before .loop-test .taken), c .before .before .before .before .loop .inv .0 .given .size)
 
 part-requires : tie.Need-part-requires Inv-loop μ-loop
-part-requires c κs = search needs
+part-requires c κs =
+    let l = c .before .before .before in
+    let g = began l .pre .1 in
+    (omega (arith, g .shown _ (weighing-in (l .before .loop .inv .0) (l .loop-test .taken))), omega (arith, g .one))
 
 add-here : tie.Need-add-here Inv-loop μ-loop
 add-here c =
@@ -72,7 +78,10 @@ add-here c =
     omega (arith, weighing-fits w (c .before .before .before .before .loop-test .taken) (c .part .ensures))
 
 part-requires-2 : tie.Need-part-requires-2 Inv-loop μ-loop
-part-requires-2 c κs = search needs
+part-requires-2 c κs =
+    let l = c .before .before .before .before in
+    let g = began l .pre .1 in
+    (omega (arith, g .shown _ (weighing-in (l .before .loop .inv .0) (l .loop-test .taken))), omega (arith, g .other))
 
 add-there : tie.Need-add-there Inv-loop μ-loop
 add-there c =

@@ -1,6 +1,6 @@
 -- What is counted by the labels and added up is what the region meets.
 use borrow.Author.Needs.{needs}
-use Rattle.search.specs.Looking.{looking-counting, looking-weighable, looking-meets}
+use Rattle.search.specs.Looking.{looking-counting, looking-weighable, looking-comparable, looking-meets}
 use Rattle.search.proofs.meet.Statement.{statement}
 use Rattle.search.proofs.meet.Tie as tie
 
@@ -17,7 +17,10 @@ touching-requires : tie.Need-touching-requires
 touching-requires c κs = let s = c .before .before .before .before .before .before .before .before .before .before .pre in (looking-counting (s .0), s .1)
 
 areas-of-requires : tie.Need-areas-of-requires
-areas-of-requires c κs = looking-weighable (c .before .before .before .before .before .before .before .before .before .before .before .before .before .before .before .before .pre .0) (c .before .before .before .before .before .touching .ensures .1)
+areas-of-requires c κs =
+    let k = c .before .before .before .before .before .before .before .before .before .before .before .before .before .before .before .before .pre .0 in
+    let same = c .before .before .before .before .before .touching .ensures .1 in
+    (looking-weighable k same, looking-comparable k same)
 
 same-length : tie.Need-same-length
 same-length c = search needs

@@ -1,6 +1,6 @@
 -- What the search counts and what is added up is what the region meets.
 use borrow.Author.Needs.{needs}
-use Rattle.search.specs.Looking.{looking-counting, looking-weighable, looking-meets}
+use Rattle.search.specs.Looking.{looking-counting, looking-weighable, looking-comparable, looking-meets}
 use Rattle.search.proofs.meet_anew.Statement.{statement}
 use Rattle.search.proofs.meet_anew.Tie as tie
 
@@ -17,7 +17,10 @@ count-beside-requires : tie.Need-count-beside-requires
 count-beside-requires c κs = looking-counting (c .before .before .before .before .before .before .before .before .before .pre)
 
 areas-of-requires : tie.Need-areas-of-requires
-areas-of-requires c κs = looking-weighable (c .before .before .before .before .before .before .before .before .before .before .before .before .before .before .before .pre) (c .before .before .before .before .before .count-beside .ensures .1)
+areas-of-requires c κs =
+    let k = c .before .before .before .before .before .before .before .before .before .before .before .before .before .before .before .pre in
+    let same = c .before .before .before .before .before .count-beside .ensures .1 in
+    (looking-weighable k same, looking-comparable k same)
 
 same-length : tie.Need-same-length
 same-length c = search needs

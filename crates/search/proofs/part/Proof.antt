@@ -1,13 +1,17 @@
--- Each way out settles the test that picks the area or 0.
-use borrow.Author.Tests.{eq-eqb, ne-eqb}
+-- The area times 1 or 0.
+use lib.Dec.{eqb}
+use Rattle.search.specs.Same.{times-bit, times-fits}
 use Rattle.search.proofs.part.Statement.{statement}
 use Rattle.search.proofs.part.Tie as tie
 
-returns : tie.Need-returns
-returns c = rw (eq-eqb _ _ (c .if1 .taken))
+same-requires : tie.Need-same-requires
+same-requires c κs = c .pre
 
-returns-2 : tie.Need-returns-2
-returns-2 c = rw (ne-eqb _ _ (c .if1 .left))
+mul-result : tie.Need-mul-result
+mul-result c = let s = c .before in record { fits = times-fits (s .args .area) (eqb (s .args .shown) (s .args .sector)) (c .same .ensures) (s .fits .area .fits) }
+
+returns : tie.Need-returns
+returns c = let s = c .before in times-bit (s .args .area) (eqb (s .args .shown) (s .args .sector)) (c .same .ensures)
 
 pub part-spec : {M : Type 1} → statement M
-part-spec = tie.close (tie.spec returns returns-2)
+part-spec = tie.close (tie.spec same-requires mul-result returns)
