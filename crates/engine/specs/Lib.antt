@@ -12,4 +12,5 @@ pub mod Compared
 pub mod Asking
 pub mod Opening
 pub mod Differences
+pub mod Remembering
 pub mod Stepping

@@ -20,6 +20,7 @@ use Rattle.neighbours.specs.Table.{Table}
 use Rattle.neighbours.specs.Net.{table-net}
 use Rattle.search.specs.declared.Look.{Look}
 use Rattle.search.specs.Looking.{Looking, Looked}
+use Rattle.search.specs.Remembered.{Remembered}
 use Rattle.visitors.specs.Visitors.{Pricing}
 use Rattle.visitors.specs.AlongBoth.{VisitorsDiffer}
 use Rattle.change.specs.declared.Sides.{Sides}
@@ -129,6 +130,15 @@ module _ {P : Plan} {start near areas col q : List ℕ} {v d : ℕ} (t : Turning
         region = t .region;
         sector = omega (arith, t .sector, limits .S);
       })
+
+  module _ {clock : ℕ} {m : List ℕ} where
+    -- the pieces that are remembered are so by that number of regions
+    pub turning-remembered : Remembered (P .R) (P .S) (P .edges) col clock m → Remembered (length start - 1) (P .S) (P .edges) col clock m
+    turning-remembered r = rw size r
+
+    -- and those that the look leaves are so of the plan
+    pub turning-remembers : Remembered (length start - 1) (P .S) (P .edges) col clock m → Remembered (P .R) (P .S) (P .edges) col clock m
+    turning-remembers r = rw size at r
 
   module _ {col′ q′ ls : List ℕ} (same : col′ ≡ col) (long : length q′ ≡ length q) (labelled : ls ≡ labels (P .edges) col) where
     -- the labels can follow

@@ -6,6 +6,7 @@ ghost use Rattle.meaning.specs.Plan.{Plan, planOf};
 ghost use Rattle.meaning.specs.Joined.{labels as labelsOf};
 ghost use Rattle.meaning.specs.Kinds.{total};
 ghost use Rattle.meaning.specs.Moves.{swap};
+ghost use Rattle.search.specs.Remembered.{Remembered};
 ghost use Rattle.change.specs.Shift.{inTurn};
 ghost use Rattle.change.specs.Small.{Addable};
 ghost use Rattle.change.specs.Changed.{sidesOf, Changed};
@@ -52,14 +53,18 @@ fn change_both(
     colouring: &mut [u64],
     work: &[u64],
     queue: &mut [u64],
+    known: &mut [u64],
+    clock: u64,
     first: u64,
     second: u64,
 ) -> Change
     ghost { Plan }
     requires { λ P. ⌜ planOf (length (now workloads)) sectors (now workloads) (now outside) (now edges) (now counts) (now visits) (now constraints) ≡ P ⌝ }
+    requires { λ P. ⌜ Remembered (P .R) (P .S) (P .edges) (now colouring) clock (now known) ⌝ }
     requires { λ P. ⌜ Swapping P (now start) (now near) (now areas) (now colouring) (now queue) first second ⌝ }
     requires { λ P. ⌜ Kept P (now colouring) (now work) ⌝ }
     requires { λ P. ⌜ Flown P (now timed) (now counts) (now visits) (now visited) (now flights) (now firsts) ⌝ }
+    ensures { λ P r. ⌜ Remembered (P .R) (P .S) (P .edges) (now (colouring .entry)) clock (now (known .exit)) ⌝ }
     ensures { λ P r. ⌜ Changed P (now (colouring .entry)) (swap (now (colouring .entry)) first second) (at (now (colouring .entry)) first) (at (now (colouring .entry)) second) r ⌝ }
     ensures { λ P r. ⌜ now (colouring .exit) ≡ now (colouring .entry) ⌝ }
 {
@@ -84,6 +89,8 @@ fn change_both(
         colouring,
         work,
         queue,
+        known,
+        clock,
         first,
         other,
     );
@@ -113,7 +120,7 @@ fn change_both(
     in_turn(once, twice)
 }
 
-// The total if the two regions were given each other's sectors; all is left as it was.
+// The total if the two regions were given each other's sectors; all is left as it was, but for what is known of pieces.
 pub fn probe(
     sectors: u64,
     whole: u64,
@@ -134,14 +141,18 @@ pub fn probe(
     work: &[u64],
     gauges: &[u64],
     queue: &mut [u64],
+    known: &mut [u64],
+    clock: u64,
     standing: Standing,
     first: u64,
     second: u64,
 ) -> u64
     ghost { Plan }
     requires { λ P. ⌜ planOf (length (now workloads)) sectors (now workloads) (now outside) (now edges) (now counts) (now visits) (now constraints) ≡ P ⌝ }
+    requires { λ P. ⌜ Remembered (P .R) (P .S) (P .edges) (now colouring) clock (now known) ⌝ }
     requires { λ P. ⌜ Exchanging P whole (now start) (now near) (now areas) (now colouring) (now work) (now gauges) (now queue) standing first second ⌝ }
     requires { λ P. ⌜ Flown P (now timed) (now counts) (now visits) (now visited) (now flights) (now firsts) ⌝ }
+    ensures { λ P r. ⌜ Remembered (P .R) (P .S) (P .edges) (now (colouring .entry)) clock (now (known .exit)) ⌝ }
     ensures { λ P r. ⌜ r ≡ total P (swap (now (colouring .entry)) first second) ⌝ }
     ensures { λ P r. ⌜ now (colouring .exit) ≡ now (colouring .entry) ⌝ }
 {
@@ -168,6 +179,8 @@ pub fn probe(
         colouring,
         work,
         queue,
+        known,
+        clock,
         first,
         second,
     );

@@ -1,12 +1,15 @@
 // The moves on a colouring, with all that is kept of it brought up to date.
 ghost use mathlib.Core.Path.{_≡_};
-ghost use Prim.Native.Nat.{_<_, _^_};
+ghost use Prim.Native.Nat.{_+_, _<_, _^_};
 ghost use lib.ListN.{length};
 ghost use lib.IntN.{pos, _-ℤ_};
-ghost use Rattle.meaning.specs.Plan.{Plan, planOf};
+ghost use Rattle.meaning.specs.Plan.{Plan, planOf, mostMoves};
+ghost use Rattle.meaning.specs.Moves.{next};
+ghost use Rattle.search.specs.Remembered.{Remembered};
 ghost use Rattle.engine.specs.State.{Setting, Ready, Within, Opening, Opened, Answered};
 ghost use Rattle.engine.specs.Flown.{Priced, Flown};
 use judge::Figures;
+use search::raise;
 use terms::Move;
 
 pub mod memory; // memory.rt: the front of the work memory
@@ -43,7 +46,7 @@ fn delta(after: u64, before: u64) -> i64
     after as i64 - before as i64
 }
 
-// Does what a move asks for, and answers it: a probe, a question and a refused move leave all as it was.
+// Does what a move asks for, and answers it: a probe, a question and a refused move leave all as it was, but for what is known of pieces.
 pub fn step(
     sectors: u64,
     whole: u64,
@@ -64,15 +67,20 @@ pub fn step(
     work: &mut [u64],
     gauges: &mut [u64],
     queue: &mut [u64],
+    known: &mut [u64],
+    clock: u64,
     standing: Standing,
     asked: Move,
 ) -> Stepped
     ghost { Plan }
     requires { λ P. ⌜ planOf (length (now workloads)) sectors (now workloads) (now outside) (now edges) (now counts) (now visits) (now constraints) ≡ P ⌝ }
+    requires { λ P. ⌜ Remembered (P .R) (P .S) (P .edges) (now colouring) clock (now known) ⌝ }
+    requires { λ P. ⌜ clock < mostMoves ⌝ }
     requires { λ P. ⌜ Setting P whole (now start) (now near) (now areas) (now queue) ⌝ }
     requires { λ P. ⌜ Ready P (now colouring) (now work) (now gauges) standing ⌝ }
     requires { λ P. ⌜ Within P asked ⌝ }
     requires { λ P. ⌜ Flown P (now timed) (now counts) (now visits) (now visited) (now flights) (now firsts) ⌝ }
+    ensures { λ P r. ⌜ Remembered (P .R) (P .S) (P .edges) (next (now (colouring .entry)) asked) (clock + 1) (now (known .exit)) ⌝ }
     ensures { λ P r. ⌜ Answered P (now (colouring .entry)) (now (work .entry)) asked (now (colouring .exit)) (now (work .exit)) (now (gauges .exit)) r ⌝ }
 {
     let before = standing.total;
@@ -83,6 +91,7 @@ pub fn step(
             sector,
         } => {
             if make {
+                let own = colouring[region.0 as usize - 1];
                 let made = recolour::make(
                     sectors,
                     whole,
@@ -107,6 +116,7 @@ pub fn step(
                     region.0,
                     sector.0,
                 );
+                raise(known, workloads.len(), clock + 1, own, sector.0);
                 let after = made.standing;
                 return Stepped {
                     standing: after,
@@ -134,6 +144,8 @@ pub fn step(
                 work,
                 gauges,
                 queue,
+                known,
+                clock,
                 standing,
                 region.0,
                 sector.0,
@@ -150,6 +162,8 @@ pub fn step(
             second,
         } => {
             if make {
+                let own = colouring[first.0 as usize - 1];
+                let other = colouring[second.0 as usize - 1];
                 let made = exchange::make(
                     sectors,
                     whole,
@@ -174,6 +188,7 @@ pub fn step(
                     first.0,
                     second.0,
                 );
+                raise(known, workloads.len(), clock + 1, own, other);
                 let after = made.standing;
                 return Stepped {
                     standing: after,
@@ -201,6 +216,8 @@ pub fn step(
                 work,
                 gauges,
                 queue,
+                known,
+                clock,
                 standing,
                 first.0,
                 second.0,

@@ -4,6 +4,7 @@ ghost use lib.ListN.{length};
 ghost use Rattle.meaning.specs.Plan.{Plan, planOf};
 ghost use Rattle.meaning.specs.Kinds.{total};
 ghost use Rattle.meaning.specs.Moves.{recolour};
+ghost use Rattle.search.specs.Remembered.{Remembered};
 ghost use Rattle.engine.specs.Remade.{Remade};
 ghost use Rattle.engine.specs.Recolouring.{Recolouring};
 ghost use Rattle.engine.specs.Flown.{Flown};
@@ -16,7 +17,7 @@ use crate::turn::turn;
 use change::figures_after;
 use change::total_after;
 
-// The total if the region were given to the sector; all is left as it was.
+// The total if the region were given to the sector; all is left as it was, but for what is known of pieces.
 pub fn probe(
     sectors: u64,
     whole: u64,
@@ -37,14 +38,18 @@ pub fn probe(
     work: &[u64],
     gauges: &[u64],
     queue: &mut [u64],
+    known: &mut [u64],
+    clock: u64,
     standing: Standing,
     region: u64,
     sector: u64,
 ) -> u64
     ghost { Plan }
     requires { λ P. ⌜ planOf (length (now workloads)) sectors (now workloads) (now outside) (now edges) (now counts) (now visits) (now constraints) ≡ P ⌝ }
+    requires { λ P. ⌜ Remembered (P .R) (P .S) (P .edges) (now colouring) clock (now known) ⌝ }
     requires { λ P. ⌜ Recolouring P whole (now start) (now near) (now areas) (now colouring) (now work) (now gauges) (now queue) standing region sector ⌝ }
     requires { λ P. ⌜ Flown P (now timed) (now counts) (now visits) (now visited) (now flights) (now firsts) ⌝ }
+    ensures { λ P r. ⌜ Remembered (P .R) (P .S) (P .edges) (now (colouring .entry)) clock (now (known .exit)) ⌝ }
     ensures { λ P r. ⌜ r ≡ total P (recolour (now (colouring .entry)) region sector) ⌝ }
     ensures { λ P r. ⌜ now (colouring .exit) ≡ now (colouring .entry) ⌝ }
 {
@@ -70,6 +75,8 @@ pub fn probe(
         colouring,
         work,
         queue,
+        known,
+        clock,
         region,
         sector,
     );

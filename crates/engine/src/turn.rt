@@ -5,6 +5,7 @@ ghost use Rattle.lists.specs.Sums.{In, at};
 ghost use Rattle.meaning.specs.Plan.{Plan, planOf, flightsOf, constraintsOf};
 ghost use Rattle.meaning.specs.Joined.{labels as labelsOf};
 ghost use Rattle.meaning.specs.Moves.{recolour};
+ghost use Rattle.search.specs.Remembered.{Remembered};
 ghost use Rattle.change.specs.Changed.{sidesOf, Single};
 ghost use Rattle.visitors.specs.Visitors.{Pricing};
 ghost use Rattle.visitors.specs.AlongBoth.{VisitorsDiffer};
@@ -88,7 +89,7 @@ fn change_of(before: Sides, workload: u64, look: Look, dwell: Swing) -> Change
     }
 }
 
-// What giving the region to another sector would change, by what stands in the work memory.
+// What giving the region to another sector would change, by what stands in the work memory and by what is known of pieces.
 pub fn change_at(
     sectors: u64,
     workloads: &[u64],
@@ -107,14 +108,18 @@ pub fn change_at(
     colouring: &mut [u64],
     work: &[u64],
     queue: &mut [u64],
+    known: &mut [u64],
+    clock: u64,
     region: u64,
     sector: u64,
 ) -> Change
     ghost { Plan }
     requires { λ P. ⌜ planOf (length (now workloads)) sectors (now workloads) (now outside) (now edges) (now counts) (now visits) (now constraints) ≡ P ⌝ }
+    requires { λ P. ⌜ Remembered (P .R) (P .S) (P .edges) (now colouring) clock (now known) ⌝ }
     requires { λ P. ⌜ Turning P (now start) (now near) (now areas) (now colouring) (now queue) region sector ⌝ }
     requires { λ P. ⌜ Kept P (now colouring) (now work) ⌝ }
     requires { λ P. ⌜ Flown P (now timed) (now counts) (now visits) (now visited) (now flights) (now firsts) ⌝ }
+    ensures { λ P r. ⌜ Remembered (P .R) (P .S) (P .edges) (now (colouring .entry)) clock (now (known .exit)) ⌝ }
     ensures { λ P r. ⌜ Turns P (now (colouring .entry)) region sector r ⌝ }
     ensures { λ P r. ⌜ now (colouring .exit) ≡ now (colouring .entry) ⌝ }
 {
@@ -130,6 +135,9 @@ pub fn change_at(
         &work[..regions],
         colouring,
         queue,
+        known,
+        sectors,
+        clock,
         v,
         sector,
     );

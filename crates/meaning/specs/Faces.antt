@@ -1,14 +1,16 @@
 -- The faces of a region: the components that share one with it, the pieces that its own falls into without it, and the areas.
 -- Assumes nothing.
-use Prim.Native.Nat.{ℕ}
+use Prim.Native.Nat.{ℕ, _-_, _≤_}
+use native.Mathlib.Omega.{arith}
 use mathlib.Core.Path.{_≡_, refl, sym}
 use mathlib.Core.List.{List, [], _∷_}
 use mathlib.Core.Logic.{inl, inr, ⊎-elim}
 use mathlib.Core.Bool.{Bool, true, false, _&&_, _||_, or-true, and-eq-true-iff, false≢true}
 use borrow.Author.Tests.{eqb-true, eq-eqb}
-use lib.ListN.{length}
+use lib.ListN.{length, length-set}
 use lib.Dec.{eqb}
 use Rattle.lists.specs.Sums.{at, upTo, count}
+use Rattle.lists.specs.Counts.{count-le}
 use Rattle.lists.specs.Tests.{or-cases, eqb-both}
 use Rattle.meaning.specs.Plan.{Edge}
 use Rattle.meaning.specs.Joined.{Neighbours, labels, inComponent}
@@ -35,6 +37,12 @@ beside edges col v c = count (upTo (length col)) (shares edges col (labels edges
 -- how many pieces the component of v falls into without v
 unfoldable pub pieces : List Edge → List ℕ → ℕ → ℕ
 pieces edges col v = beside edges (lift col v) v (at col v)
+
+-- there are no more of them than regions
+pub pieces-bound : (edges : List Edge) (col : List ℕ) (v : ℕ) → pieces edges col v ≤ length col
+unfolding pieces beside
+pieces-bound edges col v =
+    omega (arith, count-le (length (lift col v)) (shares edges (lift col v) (labels edges (lift col v)) v (at col v)), length-set col (v - 1) 0)
 
 -- the summed area of v's edges whose other end has sector c
 unfoldable pub areaTo : List Edge → List ℕ → ℕ → ℕ → ℕ

@@ -17,6 +17,7 @@ pub mod PriceLaws
 pub mod MoveLaws
 pub mod Deltas
 pub mod Faces
+pub mod Alike
 pub mod Put
 pub mod PutCounts
 pub mod Areas

@@ -11,4 +11,6 @@ pub mod Touches
 pub mod FaceAreas
 pub mod Same
 pub mod Weighing
+pub mod Confined
+pub mod Remembered
 pub mod Looking

@@ -1,7 +1,7 @@
 // What a recolouring touches: the pieces its region leaves, the components it joins, the areas of its faces; by a search that stops early.
 ghost use mathlib.Core.Path.{_≡_};
-ghost use Prim.Native.Nat.{_-_, _≤_, _<_};
-ghost use lib.ListN.{length};
+ghost use Prim.Native.Nat.{_+_, _-_, _≤_, _<_};
+ghost use lib.ListN.{length, set};
 ghost use lib.Dec.{eqb};
 ghost use mathlib.Core.Bool.{cond, not};
 ghost use Rattle.lists.specs.Sums.{at, bit};
@@ -16,10 +16,14 @@ ghost use Rattle.search.specs.Expanding.{Expandable, Expanded};
 ghost use Rattle.search.specs.Counting.{Counting};
 ghost use Rattle.search.specs.Same.{Comparable};
 ghost use Rattle.search.specs.Weighing.{Weighable};
+ghost use Rattle.search.specs.Remembered.{Remembered, Raisable};
 ghost use Rattle.search.specs.Looking.{Lifting, Looking, Meets, Looked};
 
 // What stands in the place of the sector of a region that a search has reached: larger than every sector.
 pub const MARK: u64 = 255;
+
+// What a version is multiplied by, to stand with a number of pieces in one number: more than any number of pieces.
+const STAMP: u64 = 1024;
 
 // The mark where a region shows the sector, and otherwise what it shows.
 fn masked(shown: u64, sector: u64) -> u64
@@ -276,6 +280,47 @@ pub fn pieces_at(
     left
 }
 
+// How many pieces the component of a region falls into without it: searched for once, and remembered as long as its sector's version stands.
+fn pieces_of(
+    edges: &[u64],
+    start: &[u64],
+    near: &[u64],
+    colouring: &mut [u64],
+    queue: &mut [u64],
+    known: &mut [u64],
+    sectors: u64,
+    clock: u64,
+    region: usize,
+) -> u64
+    requires { ⌜ Lifting (length (now start) - 1) (edgesOf (now edges)) (now start) (now near) (now colouring) (now queue) region ⌝ }
+    requires { ⌜ Remembered (length (now start) - 1) sectors (edgesOf (now edges)) (now colouring) clock (now known) ⌝ }
+    ensures { λ r. ⌜ r ≡ pieces (edgesOf (now (edges .entry))) (now (colouring .entry)) region ⌝ }
+    ensures { λ r. ⌜ now (colouring .exit) ≡ now (colouring .entry) ⌝ }
+    ensures { λ r. ⌜ Remembered (length (now (start .entry)) - 1) sectors (edgesOf (now (edges .entry))) (now (colouring .entry)) clock (now (known .exit)) ⌝ }
+{
+    let regions = start.len() - 1;
+    let z = region - 1;
+    let own = colouring[z] as usize;
+    let version = known[regions + own - 1] + 1;
+    let kept = known[z];
+    if kept / STAMP == version {
+        return kept % STAMP;
+    }
+    let left = pieces_at(edges, start, near, colouring, queue, region);
+    known[z] = version * STAMP + left;
+    left
+}
+
+// Gives two sectors a new version: what is known of the pieces of their regions no longer counts.
+pub fn raise(known: &mut [u64], regions: usize, version: u64, one: u64, other: u64)
+    requires { ⌜ Raisable regions one (now known) ⌝ }
+    requires { ⌜ Raisable regions other (now known) ⌝ }
+    ensures { λ _. ⌜ now (known .exit) ≡ set (set (now (known .entry)) (regions + one - 1) version) (regions + other - 1) version ⌝ }
+{
+    known[regions + one as usize - 1] = version;
+    known[regions + other as usize - 1] = version;
+}
+
 // What a region meets where it is given to a sector: the components of the sector that share a face with it, and the areas of its faces to its own sector and to the other.
 pub struct Met {
     pub touching: u64,
@@ -341,7 +386,7 @@ pub struct Look {
     pub met: Met,
 }
 
-// Looks at giving a region to a sector, by the labels.
+// Looks at giving a region to a sector, by the labels and by what is known of pieces.
 pub fn look_at(
     edges: &[u64],
     start: &[u64],
@@ -350,11 +395,16 @@ pub fn look_at(
     labels: &[u64],
     colouring: &mut [u64],
     queue: &mut [u64],
+    known: &mut [u64],
+    sectors: u64,
+    clock: u64,
     region: usize,
     sector: u64,
 ) -> Look
+    requires { ⌜ Remembered (length (now start) - 1) sectors (edgesOf (now edges)) (now colouring) clock (now known) ⌝ }
     requires { ⌜ Looking (length (now start) - 1) (edgesOf (now edges)) (now start) (now near) (now areas) (now colouring) (now queue) region sector ⌝ }
     requires { ⌜ now labels ≡ labelsOf (edgesOf (now edges)) (now colouring) ⌝ }
+    ensures { λ r. ⌜ Remembered (length (now (start .entry)) - 1) sectors (edgesOf (now (edges .entry))) (now (colouring .entry)) clock (now (known .exit)) ⌝ }
     ensures { λ r. ⌜ Looked (edgesOf (now (edges .entry))) (now (colouring .entry)) region sector r ⌝ }
     ensures { λ r. ⌜ now (colouring .exit) ≡ now (colouring .entry) ⌝ }
 {
@@ -369,7 +419,17 @@ pub fn look_at(
         region,
         sector,
     );
-    let left = pieces_at(edges, start, near, colouring, queue, region);
+    let left = pieces_of(
+        edges,
+        start,
+        near,
+        colouring,
+        queue,
+        known,
+        sectors,
+        clock,
+        region,
+    );
     Look { pieces: left, met }
 }
 

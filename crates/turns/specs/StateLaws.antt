@@ -1,18 +1,19 @@
--- What a judgement leaves is what the next move finds.
+-- What a judgement leaves is what the next move finds, and what a move remembers the one after it.
 -- Assumes nothing.
-use Prim.Native.Nat.{ℕ, _≤_}
+use Prim.Native.Nat.{ℕ, _+_, _≤_}
 use native.Mathlib.Omega.{arith}
 use mathlib.Core.Path.{_≡_, ap, _∙_}
 use mathlib.Core.List.{List, _++_}
-use lib.ListN.{length, drop, length-append}
+use lib.ListN.{length, drop, replicate, length-append}
 use lib.Seq.{take-at, drop-at}
 use Rattle.terms.specs.declared.Move.{Move}
-use Rattle.meaning.specs.Plan.{Plan, Limits, Coloured}
+use Rattle.meaning.specs.Plan.{Edge, Plan, Limits, Coloured, mostRegions, mostSectors}
 use Rattle.meaning.specs.Joined.{labels}
 use Rattle.meaning.specs.Kinds.{counts, loads}
 use Rattle.meaning.specs.Moves.{next}
 use Rattle.meaning.specs.Labels.{plan-labels}
 use Rattle.meaning.specs.Components.{counts-length, loads-length}
+use Rattle.search.specs.Remembered.{Remembered, remembered-none}
 use Rattle.engine.specs.State.{memory, memoryLength, Setting, Ready, Opened, Answered}
 use Rattle.engine.specs.declared.Standing.{Standing}
 use Rattle.engine.specs.declared.Stepped.{Stepped}
@@ -58,3 +59,12 @@ pub answered-opened : {P : Plan} {col w : List ℕ} {asked : Move} {col′ w′ 
     → {m : Move} → asked ≡ m → Opened P (next col m) w col′ w′ gs′ (r .standing)
 answered-opened a e =
     rw (← e) (record { colouring = a .colouring; work = a .work; gauges = a .gauges; standing = a .standing })
+
+-- before the first move no pieces are remembered
+pub remembered-start : {P : Plan} {col : List ℕ} → Limits P → Coloured P col → Remembered (P .R) (P .S) (P .edges) col 0 (replicate (mostRegions + mostSectors) 0)
+remembered-start l k = remembered-none (mostRegions + mostSectors) (l .R .high) (omega (arith, l .R .high, l .S .high)) (k .size) (k .sector)
+
+-- those that are remembered after a move are so after one that is equal to it
+pub remembered-move : {R S : ℕ} {edges : List Edge} (col : List ℕ) {asked m : Move} {clock : ℕ} {known : List ℕ} → asked ≡ m
+    → Remembered R S edges (next col asked) clock known → Remembered R S edges (next col m) clock known
+remembered-move col e r = rw e at r

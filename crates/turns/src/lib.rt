@@ -1,13 +1,14 @@
 // The moves in turn, and their rows: each is judged on the colouring that those before it left, and gets its row.
 ghost use mathlib.Core.Path.{_≡_};
 ghost use mathlib.Core.List.{_++_};
-ghost use Prim.Native.Nat.{_+_, _*_, _/_, _≤_};
+ghost use Prim.Native.Nat.{_+_, _*_, _/_, _≤_, _<_};
 ghost use lib.ListN.{length, drop};
 ghost use lib.Seq.{sets};
 ghost use Rattle.terms.specs.Moves.{status};
-ghost use Rattle.meaning.specs.Plan.{Plan, planOf};
+ghost use Rattle.meaning.specs.Plan.{Plan, planOf, mostMoves};
 ghost use Rattle.meaning.specs.Moves.{moveLength, rowLength, moveAt, movesOf, next, row, cells, last};
 ghost use Rattle.meaning.specs.Moves as meaning;
+ghost use Rattle.search.specs.Remembered.{Remembered};
 ghost use Rattle.engine.specs.State.{Setting, Ready, Opened};
 ghost use Rattle.engine.specs.Flown.{Flown};
 
@@ -17,6 +18,8 @@ use crate::rows::Row;
 use crate::rows::put_row;
 use engine::Standing;
 use terms::Move;
+use terms::limits::MOST_REGIONS;
+use terms::limits::MOST_SECTORS;
 use terms::limits::MOVE_LENGTH;
 
 // The status of a move: 0 where it is accepted.
@@ -62,16 +65,20 @@ fn turn(
     work: &mut [u64],
     gauges: &mut [u64],
     queue: &mut [u64],
+    known: &mut [u64],
     rows: &mut [i64],
     standing: Standing,
 ) -> Standing
     ghost { Plan }
     requires { λ P. ⌜ planOf (length (now workloads)) sectors (now workloads) (now outside) (now edges) (now counts) (now visits) (now constraints) ≡ P ⌝ }
+    requires { λ P. ⌜ Remembered (P .R) (P .S) (P .edges) (now colouring) k (now known) ⌝ }
+    requires { λ P. ⌜ k < mostMoves ⌝ }
     requires { λ P. ⌜ Setting P whole (now start) (now near) (now areas) (now queue) ⌝ }
     requires { λ P. ⌜ Ready P (now colouring) (now work) (now gauges) standing ⌝ }
     requires { λ P. ⌜ moveLength * k + moveLength ≤ length (now moves) ⌝ }
     requires { λ P. ⌜ rowLength * k + rowLength ≤ length (now rows) ⌝ }
     requires { λ P. ⌜ Flown P (now timed) (now counts) (now visits) (now visited) (now flights) (now firsts) ⌝ }
+    ensures { λ P r. ⌜ Remembered (P .R) (P .S) (P .edges) (next (now (colouring .entry)) (moveAt P (now (moves .entry)) k)) (k + 1) (now (known .exit)) ⌝ }
     ensures { λ P r. ⌜ Opened P (next (now (colouring .entry)) (moveAt P (now (moves .entry)) k)) (now (work .entry)) (now (colouring .exit)) (now (work .exit)) (now (gauges .exit)) r ⌝ }
     ensures { λ P r. ⌜ now (rows .exit) ≡ sets (now (rows .entry)) (rowLength * k) (cells (row P (now (colouring .entry)) (moveAt P (now (moves .entry)) k))) ⌝ }
 {
@@ -103,6 +110,8 @@ fn turn(
         work,
         gauges,
         queue,
+        known,
+        k as u64,
         standing,
         asked,
     );
@@ -145,6 +154,7 @@ pub fn all_moves(
 ) -> Standing
     ghost { Plan }
     requires { λ P. ⌜ planOf (length (now workloads)) sectors (now workloads) (now outside) (now edges) (now counts) (now visits) (now constraints) ≡ P ⌝ }
+    requires { λ P. ⌜ length (now moves) / moveLength ≤ mostMoves ⌝ }
     requires { λ P. ⌜ Setting P whole (now start) (now near) (now areas) (now queue) ⌝ }
     requires { λ P. ⌜ Ready P (now colouring) (now work) (now gauges) first ⌝ }
     requires { λ P. ⌜ rowLength * (length (now moves) / moveLength) ≤ length (now rows) ⌝ }
@@ -152,6 +162,7 @@ pub fn all_moves(
     ensures { λ P r. ⌜ Opened P (last (now (colouring .entry)) (movesOf P (now (moves .entry)))) (now (work .entry)) (now (colouring .exit)) (now (work .exit)) (now (gauges .exit)) r ⌝ }
     ensures { λ P r. ⌜ now (rows .exit) ≡ meaning.rows P (now (colouring .entry)) (movesOf P (now (moves .entry))) ++ drop (rowLength * (length (now (moves .entry)) / moveLength)) (now (rows .entry)) ⌝ }
 {
+    let mut known = [0u64; (MOST_REGIONS + MOST_SECTORS) as usize];
     let n = moves.len() / MOVE_LENGTH;
     let mut standing = first;
     let mut k = 0;
@@ -178,6 +189,7 @@ pub fn all_moves(
             work,
             gauges,
             queue,
+            &mut known,
             rows,
             standing,
         );

@@ -16,10 +16,9 @@ all-moves-requires : tie.Need-all-moves-requires
 all-moves-requires c κs =
     let b = c .before .before .before .before .before .before .before .before .before .before .before .before .before .begin in
     let s = c .before .before .before .before .before .before .before .before .before .before .before .before .before .before .before .before .before .before .before .before .before .before .before .before .before .before .before .before .before .before .before .before .before .before .before .before .before .pre in
-    let v = s .0 in (
-      setting-queue (s .1 .0) (b .kept .1 .1 .1 .1 .1 .1 .1 .1 .1 .1 .1 .1 .1 .1 .1 .0),
-      (opened-ready (v .plan .limits) (v .plan .coloured) (b .ensures) (s .1 .1 .0 .room), (v .rows-room, s .1 .1 .1)),
-    )
+    let v = s .0 in
+    let ready = opened-ready (v .plan .limits) (v .plan .coloured) (b .ensures) (s .1 .1 .0 .room) in
+    (v .moves-few, (setting-queue (s .1 .0) (b .kept .1 .1 .1 .1 .1 .1 .1 .1 .1 .1 .1 .1 .1 .1 .1 .0), (ready, (v .rows-room, s .1 .1 .1))))
 
 gauge-dwells-requires : tie.Need-gauge-dwells-requires
 gauge-dwells-requires c κs =

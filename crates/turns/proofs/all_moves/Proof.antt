@@ -1,26 +1,29 @@
 -- After each turn the moves that are left lead where all moves lead, and their rows complete the rows.
-use Prim.Native.Nat.{_-_}
+use Prim.Native.Nat.{ℕ, _+_, _-_}
 use native.Mathlib.Omega.{arith}
 use mathlib.Core.Path.{_≡_, refl}
 use borrow.Author.Needs.{needs}
-use lib.ListN.{length}
-use Rattle.meaning.specs.Plan.{planOf}
-use Rattle.turns.specs.StateLaws.{setting-queue}
+use lib.ListN.{length, length-replicate}
+use Rattle.meaning.specs.Plan.{planOf, edgesOf, mostRegions, mostSectors}
+use Rattle.search.specs.Remembered.{Remembered, remembered-same}
+use Rattle.turns.specs.StateLaws.{setting-queue, remembered-start}
 use Rattle.turns.specs.Taken.{Taken, taken-start, taken-turn, taken-end}
 use Rattle.turns.proofs.all_moves.Statement.{statement}
 use Rattle.turns.proofs.all_moves.Tie as tie
 
 abbrev Inv-loop : tie.InvT-loop
-Inv-loop sectors whole workloads outside edges counts visits constraints start near areas timed visited flights firsts moves colouring₀ work₀ gauges₀ queue₀ rows₀ n standing₀ k₀ colouring work gauges queue rows standing k =
+Inv-loop sectors whole workloads outside edges counts visits constraints start near areas timed visited flights firsts moves colouring₀ work₀ gauges₀ queue₀ rows₀ known₀ n standing₀ k₀ colouring work gauges queue rows known standing k =
     Taken (planOf (length workloads) sectors workloads outside edges counts visits constraints) moves colouring₀ work₀ rows₀ k colouring work gauges standing rows
     × (length colouring ≡ length colouring₀)
     × (length work ≡ length work₀)
     × (length gauges ≡ length gauges₀)
     × (length queue ≡ length queue₀)
     × (length rows ≡ length rows₀)
+    × Remembered (length workloads) sectors (edgesOf edges) colouring k known
+    × (length known ≡ mostRegions + mostSectors)
 
 abbrev μ-loop : tie.MeasureT-loop
-μ-loop sectors whole workloads outside edges counts visits constraints start near areas timed visited flights firsts moves colouring₀ work₀ gauges₀ queue₀ rows₀ n standing₀ k₀ colouring work gauges queue rows standing k = n - k
+μ-loop sectors whole workloads outside edges counts visits constraints start near areas timed visited flights firsts moves colouring₀ work₀ gauges₀ queue₀ rows₀ known₀ n standing₀ k₀ colouring work gauges queue rows known standing k = n - k
 
 -- from inside the loop to where all began
 abbrev began : tie.In-loop Inv-loop μ-loop → tie.Start Inv-loop μ-loop
@@ -28,19 +31,24 @@ began c = c .before .before .before .before .before .before .before .before .bef
 
 loop-holds : tie.Need-loop-holds Inv-loop μ-loop
 loop-holds c =
-    let s = c .before .before .before .before .before .before .before .before .before .before .before .before .before .before .before .before .before .before in
-    (taken-start (s .pre .1 .0) (s .pre .1 .1 .0), refl, refl, refl, refl, refl)
+    let s = c .before .before .before .before .before .before .before .before .before .before .before .before .before .before .before .before .before .before .pre .1 in
+    (taken-start (s .1 .0) (s .1 .1 .0), refl, refl, refl, refl, refl, remembered-start (s .0 .limits) (s .1 .0 .coloured), length-replicate {A = ℕ} (mostRegions + mostSectors) 0)
+
+slice-aggregate-turn : tie.Need-slice-aggregate-turn Inv-loop μ-loop
+slice-aggregate-turn c = search needs
 
 turn-requires : tie.Need-turn-requires Inv-loop μ-loop
 turn-requires c κs =
-    let l = c .before .before .before .before .before in
+    let l = c .before .before .before .before .before .before in
     let i = l .before .loop .inv in
-    let s = began l in
-    (setting-queue (s .pre .0) (i .4), (i .0 .ready, (omega (arith, l .loop-test .taken), (omega (arith, l .loop-test .taken, s .pre .1 .1 .0, i .5), s .pre .1 .1 .1))))
+    let taken = l .loop-test .taken in
+    let few = began l .pre .0 in
+    let s = began l .pre .1 in
+    (i .6, (omega (arith, taken, few), (setting-queue (s .0) (i .4), (i .0 .ready, (omega (arith, taken), (omega (arith, taken, s .1 .1 .0, i .5), s .1 .1 .1))))))
 
 add-k : tie.Need-add-k Inv-loop μ-loop
 add-k c =
-    let l = c .before .before .before .before .before .before .before .before .before .before .before .before .before .before .before in
+    let l = c .before .before .before .before .before .before .before .before .before .before .before .before .before .before .before .before .before in
     omega (arith, l .loop-test .taken, began l .good .1 .1 .1 .1 .1 .1 .1 .1 .1 .1 .1 .1 .1 .1 .1 .0)
 
 loop-less : tie.Need-loop-less Inv-loop μ-loop
@@ -48,13 +56,15 @@ loop-less c = search needs
 
 loop-again : tie.Need-loop-again Inv-loop μ-loop
 loop-again c =
-    let t = c .before .before .before .before .before .before .before .before .before .turn in
-    let l = c .before .before .before .before .before .before .before .before .before .before .before .before .before .before .before in (
-      taken-turn (l .before .loop .inv .0) (began l .pre .0 .limits) (l .loop-test .taken) (t .ensures .0) (t .ensures .1),
+    let t = c .before .before .before .before .before .before .before .before .before .before .turn in
+    let l = c .before .before .before .before .before .before .before .before .before .before .before .before .before .before .before .before .before in (
+      taken-turn (l .before .loop .inv .0) (began l .pre .1 .0 .limits) (l .loop-test .taken) (t .ensures .1 .0) (t .ensures .1 .1),
       search needs,
       search needs,
       search needs,
       search needs,
+      search needs,
+      remembered-same (t .ensures .1 .0 .colouring) (t .ensures .0),
       search needs,
     )
 
@@ -83,6 +93,7 @@ all-moves-spec =
     Inv-loop
     μ-loop
     loop-holds
+    slice-aggregate-turn
     turn-requires
     add-k
     loop-less

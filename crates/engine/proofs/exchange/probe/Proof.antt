@@ -6,6 +6,10 @@ use Rattle.engine.specs.Exchanging.{alike-total, exchanging-kept, exchan
 use Rattle.engine.proofs.exchange.probe.Statement.{statement}
 use Rattle.engine.proofs.exchange.probe.Tie as tie
 
+-- from where the change is known to where all began
+abbrev began : tie.After-change-both → tie.Start
+began c = c .before .before .before .before .before .before .before .before .before .before .before .before .before .before .before .before .before .before .before .before .before .before .before .before .before
+
 sub-own : tie.Need-sub-own
 sub-own c = search needs
 
@@ -25,18 +29,27 @@ slice-read-other : tie.Need-slice-read-other
 slice-read-other c = search needs
 
 returns : tie.Need-returns
-returns c = (alike-total (c .before .before .before .before .before .before .before .before .before .before .before .before .before .before .before .before .before .before .before .before .pre .0) (c .if1 .taken), refl)
+returns c =
+    let s = c .before .before .before .before .before .before .before .before .before .before .before .before .before .before .before .before .before .before .before .before .before .pre in
+    (s .0, (alike-total (s .1 .0) (c .if1 .taken), refl))
 
 change-both-requires : tie.Need-change-both-requires
-change-both-requires c κs = let s = c .before .before .before .before .before .before .before .before .before .before .before .before .before .before .before .before .before .before .before .before .before .before .pre in (exchanging-swapping (s .0) (c .before .before .if1 .left), (exchanging-kept (s .0), s .1))
+change-both-requires c κs =
+    let s = c .before .before .before .before .before .before .before .before .before .before .before .before .before .before .before .before .before .before .before .before .before .before .before .before .pre in
+    let k = s .1 .0 in
+    (s .0, (exchanging-swapping k (c .before .before .before .if1 .left), (exchanging-kept k, s .1 .1)))
 
 figures-after-requires : tie.Need-figures-after-requires
-figures-after-requires c κs = let k = c .before .before .before .before .before .before .before .before .before .before .before .before .before .before .before .before .before .before .before .before .before .before .before .before .before .before .before .pre .0 in changing-shifting (ready-changing (k .setting) (k .ready) (c .before .before .before .before .change-both .ensures .0))
+figures-after-requires c κs =
+    let n = c .before .before .before .before .before .before in
+    let k = began n .pre .1 .0 in
+    changing-shifting (ready-changing (k .setting) (k .ready) (n .change-both .ensures .1 .0))
 
 total-after-requires : tie.Need-total-after-requires
 total-after-requires c κs =
-    let k = c .before .before .before .before .before .before .before .before .before .before .before .before .before .before .before .before .before .before .before .before .before .before .before .before .before .before .before .before .pre .0 in
-    changing-totalling (ready-changing (k .setting) (k .ready) (c .before .before .before .before .before .change-both .ensures .0)) (c .figures-after .ensures) _ refl
+    let n = c .before .before .before .before .before .before .before in
+    let k = began n .pre .1 .0 in
+    changing-totalling (ready-changing (k .setting) (k .ready) (n .change-both .ensures .1 .0)) (c .figures-after .ensures) _ refl
 
 same-length : tie.Need-same-length
 same-length c = search needs
@@ -44,11 +57,15 @@ same-length c = search needs
 same-length-2 : tie.Need-same-length-2
 same-length-2 c = search needs
 
+same-length-3 : tie.Need-same-length-3
+same-length-3 c = search needs
+
 returns-2 : tie.Need-returns-2
 returns-2 c =
-    let k = c .before .before .before .before .before .before .before .before .before .before .before .before .before .before .before .before .before .before .before .before .before .before .before .before .before .before .before .before .before .pre .0 in
-    let t = c .before .before .before .before .before .before .change-both .ensures in
-    (total-changed (ready-changing (k .setting) (k .ready) (t .0)) (c .before .figures-after .ensures) _ refl (c .total-after .ensures), t .1)
+    let n = c .before .before .before .before .before .before .before .before in
+    let k = began n .pre .1 .0 in
+    let t = n .change-both .ensures in
+    (t .0, (total-changed (ready-changing (k .setting) (k .ready) (t .1 .0)) (c .before .figures-after .ensures) _ refl (c .total-after .ensures), t .1 .1))
 
 pub probe-spec : {M : Type 1} → statement M
 probe-spec =
@@ -66,4 +83,5 @@ probe-spec =
     total-after-requires
     same-length
     same-length-2
+    same-length-3
     returns-2)

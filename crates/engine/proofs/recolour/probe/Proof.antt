@@ -6,6 +6,10 @@ use Rattle.engine.specs.Recolouring.{still-total, recolouring-kept, reco
 use Rattle.engine.proofs.recolour.probe.Statement.{statement}
 use Rattle.engine.proofs.recolour.probe.Tie as tie
 
+-- from where the change is known to where all began
+abbrev began : tie.After-change-at → tie.Start
+began c = c .before .before .before .before .before .before .before .before .before .before .before .before .before .before .before .before .before .before .before .before .before .before .before .before
+
 sub-own : tie.Need-sub-own
 sub-own c = search needs
 
@@ -16,18 +20,27 @@ slice-read-own : tie.Need-slice-read-own
 slice-read-own c = search needs
 
 returns : tie.Need-returns
-returns c = (still-total (c .before .before .before .before .before .before .before .before .before .before .before .before .before .before .before .before .before .before .before .pre .0) (c .if1 .taken), refl)
+returns c =
+    let s = c .before .before .before .before .before .before .before .before .before .before .before .before .before .before .before .before .before .before .before .before .pre in
+    (s .0, (still-total (s .1 .0) (c .if1 .taken), refl))
 
 change-at-requires : tie.Need-change-at-requires
-change-at-requires c κs = let s = c .before .before .before .before .before .before .before .before .before .before .before .before .before .before .before .before .before .before .before .before .before .pre in (recolouring-turning (s .0) (c .before .before .if1 .left), (recolouring-kept (s .0), s .1))
+change-at-requires c κs =
+    let s = c .before .before .before .before .before .before .before .before .before .before .before .before .before .before .before .before .before .before .before .before .before .before .before .pre in
+    let k = s .1 .0 in
+    (s .0, (recolouring-turning k (c .before .before .before .if1 .left), (recolouring-kept k, s .1 .1)))
 
 figures-after-requires : tie.Need-figures-after-requires
-figures-after-requires c κs = let k = c .before .before .before .before .before .before .before .before .before .before .before .before .before .before .before .before .before .before .before .before .before .before .before .before .before .before .pre .0 in changing-shifting (ready-changing (k .setting) (k .ready) (c .before .before .before .before .change-at .ensures .0 .changed))
+figures-after-requires c κs =
+    let n = c .before .before .before .before .before .before in
+    let k = began n .pre .1 .0 in
+    changing-shifting (ready-changing (k .setting) (k .ready) (n .change-at .ensures .1 .0 .changed))
 
 total-after-requires : tie.Need-total-after-requires
 total-after-requires c κs =
-    let k = c .before .before .before .before .before .before .before .before .before .before .before .before .before .before .before .before .before .before .before .before .before .before .before .before .before .before .before .pre .0 in
-    changing-totalling (ready-changing (k .setting) (k .ready) (c .before .before .before .before .before .change-at .ensures .0 .changed)) (c .figures-after .ensures) _ refl
+    let n = c .before .before .before .before .before .before .before in
+    let k = began n .pre .1 .0 in
+    changing-totalling (ready-changing (k .setting) (k .ready) (n .change-at .ensures .1 .0 .changed)) (c .figures-after .ensures) _ refl
 
 same-length : tie.Need-same-length
 same-length c = search needs
@@ -35,11 +48,15 @@ same-length c = search needs
 same-length-2 : tie.Need-same-length-2
 same-length-2 c = search needs
 
+same-length-3 : tie.Need-same-length-3
+same-length-3 c = search needs
+
 returns-2 : tie.Need-returns-2
 returns-2 c =
-    let k = c .before .before .before .before .before .before .before .before .before .before .before .before .before .before .before .before .before .before .before .before .before .before .before .before .before .before .before .before .pre .0 in
-    let t = c .before .before .before .before .before .before .change-at .ensures in
-    (total-changed (ready-changing (k .setting) (k .ready) (t .0 .changed)) (c .before .figures-after .ensures) _ refl (c .total-after .ensures), t .1)
+    let n = c .before .before .before .before .before .before .before .before in
+    let k = began n .pre .1 .0 in
+    let t = n .change-at .ensures in
+    (t .0, (total-changed (ready-changing (k .setting) (k .ready) (t .1 .0 .changed)) (c .before .figures-after .ensures) _ refl (c .total-after .ensures), t .1 .1))
 
 pub probe-spec : {M : Type 1} → statement M
 probe-spec =
@@ -54,4 +71,5 @@ probe-spec =
     total-after-requires
     same-length
     same-length-2
+    same-length-3
     returns-2)
