@@ -1,6 +1,5 @@
 pub mod ListSums
 pub mod Alone
-pub mod Ranging
 pub mod Growing
 pub mod Minimum
 pub mod Differing

@@ -18,8 +18,8 @@ use Rattle.meaning.specs.Faces.{beside, Shares}
 use Rattle.meaning.specs.Put.{Put, in0, label-else, joined-put}
 use Rattle.search.specs.Marks.{mark}
 use Rattle.search.specs.Counting.{Counting}
+use Rattle.search.specs.Ranging.{Rangeable, Ranged}
 use Rattle.relabel.specs.Alone.{Least, shares-other, label-least, label-one, label-alone}
-use Rattle.relabel.specs.Ranging.{Rangeable, Ranged}
 use Rattle.relabel.specs.Sowing.{Renewal, anew, kept, Renewed}
 
 -- v alone is lifted out of its sector, and d is a sector whose components may be searched
@@ -155,20 +155,20 @@ module _ {R : ℕ} {edges : List Edge} {start nb col ls queue : List ℕ} {v d :
   coming-range = let c = a .lifted .counting in record { net = c .net; sectors = c .ready .size; labels = coming-size; region = c .region }
 
   -- where none of them is above the smallest of v and them, that is v's label, and no other changes
-  pub coming-still : {low high : ℕ} → Ranged edges col ls v d low high → high ≤ low → recolour ls v low ≡ labels edges (recolour col v d)
+  pub coming-still : {low high : ℕ} → Ranged edges col ls v d v low high → high ≤ low → recolour ls v low ≡ labels edges (recolour col v d)
   coming-still {low} {high} r h = ext-at _ _ (length-set ls _ low ∙ coming-size) (size1 k) (λ w i. go w i (ℕ-discrete w v))
     where
       k : Lifted R edges start nb col queue v d
       k = a .lifted
 
       least : Least edges col (labels edges col) v d low
-      least = record { own = r .least .own; least = λ l s. r .least .least l (shares-but .1 s); stands = ⊎-elim inl (λ s. inr (shares-but .0 s)) (r .least .stands) }
+      least = record { own = r .own; least = λ l s. r .between l (shares-but .1 s) .0; stands = ⊎-elim inl (λ s. inr (shares-but .0 s)) (r .stands) }
 
       own : at (labels edges (recolour col v d)) v ≡ low
       own = label-least (ends k) (put k) (right0 k) (right1 k) least
 
       one : (l : ℕ) → Shares edges col (labels edges col) v d l → l ≡ at (labels edges (recolour col v d)) v
-      one l s = omega (arith, least .least l s, r .most l (shares-but .1 s), own)
+      one l s = omega (arith, r .between l (shares-but .1 s), own)
 
       go : (w : ℕ) → In R w → Dec (w ≡ v) → at (recolour ls v low) w ≡ at (labels edges (recolour col v d)) w
       go w i (yes e) = rw e (at-set ls low coming-size (put k .region) ∙ sym own)

@@ -1,6 +1,6 @@
 // The component of a region, or those that share a face with one: searched, and labelled with their smallest region.
 ghost use mathlib.Core.Path.{_≡_};
-ghost use Prim.Native.Nat.{_-_, _≤_, _<_, min};
+ghost use Prim.Native.Nat.{_-_, _≤_, _<_};
 ghost use mathlib.Core.Bool.{not};
 ghost use lib.ListN.{length};
 ghost use lib.Dec.{eqb};
@@ -15,6 +15,7 @@ ghost use Rattle.relabel.specs.Writing.{Written};
 ghost use Rattle.relabel.specs.Seeding.{Seedable, Seeded};
 ghost use Rattle.relabel.specs.Sowing.{Renewed};
 use search::MARK;
+use terms::lesser;
 
 // Searches from the regions of the queue from place `first` on until none of them has a neighbour that shows the sector, and returns the queue's new end.
 fn grow(
@@ -38,13 +39,6 @@ fn grow(
         e = search::expand(edges, start, near, colouring, queue, sector, reached, e);
     }
     e
-}
-
-// The smaller of two numbers.
-pub fn lesser(a: u64, b: u64) -> u64
-    ensures { λ r. ⌜ r ≡ min a b ⌝ }
-{
-    if b < a { b } else { a }
 }
 
 // The smallest region of a part of the queue.

@@ -1,17 +1,19 @@
 // The labels of a colouring, and the labels after a made recolouring at the cost of what it changes.
 ghost use mathlib.Core.Path.{_≡_};
-ghost use Prim.Native.Nat.{_-_, max};
+ghost use Prim.Native.Nat.{_-_};
 ghost use lib.ListN.{length};
 ghost use Rattle.lists.specs.Sums.{at};
 ghost use Rattle.meaning.specs.Plan.{edgesOf};
 ghost use Rattle.meaning.specs.Joined.{labels as labelsOf};
 ghost use Rattle.meaning.specs.Moves.{recolour as recoloured, differing};
 ghost use Rattle.meaning.specs.Faces.{pieces as piecesOf};
-ghost use Rattle.relabel.specs.Ranging.{Rangeable, Ranged};
+ghost use Rattle.search.specs.Ranging.{Rangeable, Ranged};
 ghost use Rattle.relabel.specs.Lifting.{Leaving, Coming, labelsBut};
 ghost use Rattle.relabel.specs.Recolouring.{Recolourable};
 ghost use Rattle.relabel.specs.Labelling.{Labellable};
 use lists::clear;
+use terms::greater;
+use terms::lesser;
 
 pub mod component; // component.rt: components are searched and labelled
 
@@ -41,13 +43,6 @@ fn leave(
     component::relabel_pieces(edges, start, near, colouring, labels, queue, region, sector)
 }
 
-// The larger of two numbers.
-fn greater(a: u64, b: u64) -> u64
-    ensures { λ r. ⌜ r ≡ max a b ⌝ }
-{
-    if a < b { b } else { a }
-}
-
 // Two numbers that labels lie between.
 struct Range {
     low: u64,
@@ -65,7 +60,7 @@ fn labels_beside(
     sector: u64,
 ) -> Range
     requires { ⌜ Rangeable (length (now start) - 1) (edgesOf (now edges)) (now start) (now near) (now colouring) (now labels) region ⌝ }
-    ensures { λ r. ⌜ Ranged (edgesOf (now (edges .entry))) (now (colouring .entry)) (now (labels .entry)) region sector (r .low) (r .high) ⌝ }
+    ensures { λ r. ⌜ Ranged (edgesOf (now (edges .entry))) (now (colouring .entry)) (now (labels .entry)) region sector region (r .low) (r .high) ⌝ }
 {
     let last = start[region] as usize;
     let mut j = start[region - 1] as usize;
@@ -75,7 +70,7 @@ fn labels_beside(
         let z = near[j] as usize - 1;
         if colouring[z] == sector {
             let label = labels[z];
-            low = component::lesser(low, label);
+            low = lesser(low, label);
             high = greater(high, label);
             j += 1;
         } else {

@@ -7,6 +7,7 @@ pub mod Closed
 pub mod Restoring
 pub mod Counting
 pub mod Searching
+pub mod Ranging
 pub mod Touches
 pub mod FaceAreas
 pub mod Same

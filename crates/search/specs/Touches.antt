@@ -1,28 +1,30 @@
 -- The components of sector d that share a face with region v are counted by their labels: the label of each neighbour of v is marked, if it shows d.
 -- Assumes nothing.
-use Prim.Native.Nat.{ℕ, _+_, _≤_, _<_}
+use Prim.Native.Nat.{ℕ, _+_, _≤_, _<_, min}
 use native.Mathlib.Omega.{arith}
 use mathlib.Core.Path.{_≡_, refl, sym, ap, _∙_}
 use mathlib.Core.List.{List}
-use mathlib.Core.Logic.{_≢_, ⊎-elim}
-use mathlib.Core.Bool.{true}
+use mathlib.Core.Logic.{_≢_, _⊎_, inl, inr, ⊎-elim}
+use mathlib.Core.Bool.{true, false, false≢true}
 use borrow.Author.Tests.{eqb-true, eq-eqb}
 use lib.Dec.{eqb}
 use lib.ListN.{length, getD, set, length-set}
-use Rattle.lists.specs.Sums.{In, at, bit}
+use Rattle.lists.specs.Sums.{In, at, bit, upTo, count}
 use Rattle.lists.specs.Tests.{test-same}
-use Rattle.lists.specs.Counts.{count-same}
+use Rattle.lists.specs.Counts.{count-same, count-none, count-more}
 use Rattle.lists.specs.Parts.{Passed, passed-start, passed-turn, passed-map}
 use Rattle.meaning.specs.Plan.{Edge}
 use Rattle.meaning.specs.Joined.{Joined, instead, labels}
+use Rattle.meaning.specs.Labels.{Labelled, labels-right}
 use Rattle.meaning.specs.Moves.{recolour}
 use Rattle.meaning.specs.MoveLaws.{recolour-own}
 use Rattle.meaning.specs.Paths.{joined-in, joined-sector, neighbours-far}
 use Rattle.meaning.specs.Faces.{shares, beside, Shares, shares-true, shares-make}
-use Rattle.neighbours.specs.Net.{net-in}
+use Rattle.neighbours.specs.Net.{Net, net-in}
 use Rattle.search.specs.Marks.{mark, unmask, open-sector, sector-marked, unmask-put, mark-shut, by-test}
 use Rattle.search.specs.Flood.{ready-same, Reached, reached-here, reached-cases, marked, Flood, flood-none, flood-top, flood-past, flood-push}
-use Rattle.search.specs.Counting.{Counting, counting-row, counting-labels}
+use Rattle.search.specs.Counting.{Counting, counting-row}
+use Rattle.search.specs.Ranging.{Rangeable, Ranged}
 
 -- the neighbours of v up to place j are gone through: what is marked is the labels of those of sector d
 pub record Touching (R : ℕ) (edges : List Edge) (start nb ls col room : List ℕ) (v d : ℕ) (cur queue : List ℕ) (e j : ℕ) : Type 0 where
@@ -35,6 +37,46 @@ pub record Touching (R : ℕ) (edges : List Edge) (start nb ls col room : List �
   -- each marked region is the label of such a neighbour, and no such neighbour's label shows d
   pub shared : (l : ℕ) → Reached R cur l → Shares edges col ls v d l
   pub passed : Passed (λ x. at cur (at ls x) ≢ d) nb (at start v) (getD start v 0) j
+
+module _ {R : ℕ} {edges : List Edge} {start nb ls : List ℕ} (col : List ℕ) (net : Net R edges start nb) (size : length col ≡ R) (labelled : ls ≡ labels edges col) where
+  -- the labels are right
+  right : Labelled edges col ls
+  right = rw labelled (labels-right edges col (rw size (net .ends)))
+
+  -- each region has one
+  pub label-size : length ls ≡ R
+  label-size = right .size ∙ size
+
+  -- to which it is joined
+  pub label-to : {w : ℕ} → In R w → Joined edges col w (at ls w)
+  label-to {w} i = right .joined w (rw size i)
+
+  -- and which is a region
+  pub label-in : {w : ℕ} → In R w → In R (at ls w)
+  label-in i = joined-in (net .ends) (label-to i) i
+
+  -- so that none is above the number of regions
+  pub label-le : {w : ℕ} → In R w → at ls w ≤ length col
+  label-le i = omega (arith, label-in i, size)
+
+  -- the labels beside a region may be gone through
+  pub label-range : {v : ℕ} → In R v → Rangeable R edges start nb col ls v
+  label-range i = record { net = net; sectors = size; labels = label-size; region = i }
+
+  -- where they are one or none, so are the components that share a face with it
+  pub beside-few : {v d top low high : ℕ} → Ranged edges col ls v d top low high → high ≤ low → min high 1 ≡ beside edges col v d
+  unfolding beside
+  beside-few {v} {d} {top} {low} {high} r few = rw (size, ← labelled) (go (r .reaches))
+    where
+      none : (l : ℕ) → (Shares edges col ls v d l → ⊥) → shares edges col ls v d l ≡ false
+      none l n = test-same _ _ (λ t. absurd (n (shares-true edges t))) (λ f. absurd (false≢true f))
+
+      go : (high ≡ 0) ⊎ Shares edges col ls v d high → min high 1 ≡ count (upTo R) (shares edges col ls v d)
+      go (inl e) = rw e (sym (count-none R _ (λ l i. none l (λ s. omega (arith, r .between l s, i .low)))))
+      go (inr s) =
+          let i : In R high = rw (s .label) at (label-in (neighbours-far edges v (s .w) (net .ends) (s .neighbours))) in
+          let one = count-more R high (shares edges col ls v d) (λ _. false) i (shares-make edges s) refl (λ l j n. none l (λ q. n (omega (arith, r .between l q, r .between high s)))) in
+          omega (arith, i .low, one, count-none R (λ _. false) (λ _ _. refl))
 
 module _ {R : ℕ} {edges : List Edge} {start nb ls col room : List ℕ} {v d : ℕ} where
   -- none of them yet
@@ -57,11 +99,11 @@ module _ {R : ℕ} {edges : List Edge} {start nb ls col room : List ℕ} {v d : 
 
     -- each region has a label
     pub touching-size : length ls ≡ R
-    touching-size = ap length (t .labelled) ∙ counting-labels (t .given) .size ∙ t .given .ready .size
+    touching-size = label-size col (t .given .net) (t .given .ready .size) (t .labelled)
 
     -- to which it is joined
     to-label : {w : ℕ} → In R w → Joined edges col w (at ls w)
-    to-label {w} i = rw (t .labelled) (counting-labels (t .given) .joined w (rw (t .given .ready .size) i))
+    to-label i = label-to col (t .given .net) (t .given .ready .size) (t .labelled) i
 
     -- the next neighbour is a region
     pub touching-in : j < getD start v 0 → In R (getD nb j 0)
@@ -69,7 +111,7 @@ module _ {R : ℕ} {edges : List Edge} {start nb ls col room : List ℕ} {v d : 
 
     -- and so is its label
     pub touching-label : j < getD start v 0 → In R (at ls (getD nb j 0))
-    touching-label h = joined-in (t .given .net .ends) (to-label (touching-in h)) (touching-in h)
+    touching-label h = label-in col (t .given .net) (t .given .ready .size) (t .labelled) (touching-in h)
 
     -- it is gone through, without a branch
     pub touching-turn : {m b : ℕ} → j < getD start v 0 → m ≡ instead d mark (at cur (at ls (getD nb j 0))) → b ≡ bit (eqb (at cur (at ls (getD nb j 0))) d)

@@ -5,6 +5,7 @@ use native.Mathlib.Omega.{arith}
 use mathlib.Core.Path.{_≡_, sym, ap, _∙_}
 use mathlib.Core.List.{List}
 use mathlib.Core.Bool.{Bool, cond}
+use lib.Dec.{eqb}
 use lib.ListN.{length, getD, drop}
 use Rattle.lists.specs.Sums.{In, at, Every}
 use Rattle.meaning.specs.Plan.{Edge, EdgeLimits, mostEdges}
@@ -28,6 +29,10 @@ pub record Weighing (R : ℕ) (edges : List Edge) (start nb ar col : List ℕ) (
   pub given : Weighable R edges start nb ar col v
   pub low : at start v ≤ j
   pub rest : x + weigh test (drop (j - at start v) (near edges v)) (drop (j - at start v) (areas edges v)) ≡ areaOf edges (leadsTo test v)
+
+-- the test is that a region has sector c
+abbrev pub Towards : (R : ℕ) (edges : List Edge) (start nb ar col : List ℕ) (v c x j : ℕ) → Type 0
+Towards R edges start nb ar col v c x j = Weighing R edges start nb ar col v (λ w. eqb (at col w) c) x j
 
 module _ {R : ℕ} {edges : List Edge} {start nb ar col : List ℕ} {v : ℕ} where
   -- v has a row

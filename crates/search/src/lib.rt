@@ -14,10 +14,13 @@ ghost use Rattle.search.specs.Flood.{Flood};
 ghost use Rattle.search.specs.Scan.{Span, Scan};
 ghost use Rattle.search.specs.Expanding.{Expandable, Expanded};
 ghost use Rattle.search.specs.Counting.{Counting};
+ghost use Rattle.search.specs.Ranging.{Ranged};
 ghost use Rattle.search.specs.Same.{Comparable};
 ghost use Rattle.search.specs.Weighing.{Weighable};
 ghost use Rattle.search.specs.Remembered.{Remembered, Raisable};
 ghost use Rattle.search.specs.Looking.{Lifting, Looking, Meets, Looked};
+use terms::greater;
+use terms::lesser;
 
 // What stands in the place of the sector of a region that a search has reached: larger than every sector.
 pub const MARK: u64 = 255;
@@ -180,13 +183,13 @@ fn same(shown: u64, sector: u64) -> u64
     (256 - (shown ^ sector)) >> 8
 }
 
-// The area where a region shows the sector, and otherwise 0.
-fn part(shown: u64, sector: u64, area: u64) -> u64
+// A number where a region shows the sector, and otherwise 0.
+fn part(shown: u64, sector: u64, number: u64) -> u64
     requires { ⌜ shown < 256 ⌝ }
     requires { ⌜ sector < 256 ⌝ }
-    ensures { λ r. ⌜ r ≡ cond (eqb shown sector) area 0 ⌝ }
+    ensures { λ r. ⌜ r ≡ cond (eqb shown sector) number 0 ⌝ }
 {
-    area * same(shown, sector)
+    number * same(shown, sector)
 }
 
 // The areas of a region's edges to its own sector and to another.
@@ -224,6 +227,60 @@ fn areas_of(
         j += 1;
     }
     Areas { here, there }
+}
+
+// What a region's row shows: the areas of its edges to its own sector and to another, and the smallest and the largest label of its neighbours in
+// the other; where it has none there, the number of regions and 0.
+struct Seen {
+    here: u64,
+    there: u64,
+    low: u64,
+    high: u64,
+}
+
+// Goes through a region's row once, for the areas of its edges to two sectors and for the labels of its neighbours in the second.
+fn survey(
+    edges: &[u64],
+    start: &[u64],
+    near: &[u64],
+    areas: &[u64],
+    labels: &[u64],
+    colouring: &[u64],
+    region: usize,
+    own: u64,
+    sector: u64,
+) -> Seen
+    requires { ⌜ Weighable (length (now start) - 1) (edgesOf (now edges)) (now start) (now near) (now areas) (now colouring) region ⌝ }
+    requires { ⌜ Comparable (length (now start) - 1) (now colouring) own sector ⌝ }
+    requires { ⌜ now labels ≡ labelsOf (edgesOf (now edges)) (now colouring) ⌝ }
+    ensures { λ r. ⌜ r .here ≡ areaTo (edgesOf (now (edges .entry))) (now (colouring .entry)) region own ⌝ }
+    ensures { λ r. ⌜ r .there ≡ areaTo (edgesOf (now (edges .entry))) (now (colouring .entry)) region sector ⌝ }
+    ensures { λ r. ⌜ Ranged (edgesOf (now (edges .entry))) (now (colouring .entry)) (now (labels .entry)) region sector (length (now (colouring .entry))) (r .low) (r .high) ⌝ }
+{
+    let last = start[region] as usize;
+    let top = colouring.len() as u64;
+    let mut j = start[region - 1] as usize;
+    let mut here = 0;
+    let mut there = 0;
+    let mut low = top;
+    let mut high = 0;
+    while j < last {
+        let z = near[j] as usize - 1;
+        let area = areas[j];
+        let shown = colouring[z];
+        let label = labels[z];
+        here += part(shown, own, area);
+        there += part(shown, sector, area);
+        low = lesser(low, top - part(shown, sector, top - label));
+        high = greater(high, part(shown, sector, label));
+        j += 1;
+    }
+    Seen {
+        here,
+        there,
+        low,
+        high,
+    }
 }
 
 // The area where a region shows another sector, and otherwise 0.
@@ -328,7 +385,7 @@ pub struct Met {
     pub there: u64,
 }
 
-// What a region meets where it is given to a sector, by the labels.
+// What a region meets where it is given to a sector, by the labels, which are counted only where its neighbours there have more than one.
 pub fn meet(
     edges: &[u64],
     start: &[u64],
@@ -346,12 +403,29 @@ pub fn meet(
     ensures { λ r. ⌜ now (colouring .exit) ≡ now (colouring .entry) ⌝ }
 {
     let own = colouring[region - 1];
+    let seen = survey(
+        edges,
+        start,
+        near,
+        areas,
+        labels,
+        colouring,
+        region,
+        own,
+        sector,
+    );
+    if seen.high <= seen.low {
+        return Met {
+            touching: lesser(seen.high, 1),
+            here: seen.here,
+            there: seen.there,
+        };
+    }
     let joined = touching(edges, start, near, labels, colouring, queue, region, sector);
-    let faces = areas_of(edges, start, near, areas, colouring, region, own, sector);
     Met {
         touching: joined as u64,
-        here: faces.here,
-        there: faces.there,
+        here: seen.here,
+        there: seen.there,
     }
 }
 

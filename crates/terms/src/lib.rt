@@ -1,6 +1,6 @@
 // Document 01's terms: a region, a sector, a relation and a move, each made by a constructor that refuses what is out of range.
 ghost use mathlib.Core.Path.{_≡_};
-ghost use Prim.Native.Nat.{_-_, _<_, _^_};
+ghost use Prim.Native.Nat.{_-_, _<_, _^_, min, max};
 ghost use Rattle.lists.specs.Sums.{In};
 ghost use Rattle.terms.specs.Plan.{within, regionOf, sectorOf, relationOf};
 ghost use Rattle.terms.specs.Distance.{gap, distance};
@@ -74,6 +74,20 @@ pub fn apart(x: u64, t: u64) -> u64
     ensures { λ r. ⌜ r ≡ gap x t ⌝ }
 {
     if x < t { t - x } else { x - t }
+}
+
+// The smaller of two numbers.
+pub fn lesser(a: u64, b: u64) -> u64
+    ensures { λ r. ⌜ r ≡ min a b ⌝ }
+{
+    if b < a { b } else { a }
+}
+
+// The larger of two numbers.
+pub fn greater(a: u64, b: u64) -> u64
+    ensures { λ r. ⌜ r ≡ max a b ⌝ }
+{
+    if a < b { b } else { a }
 }
 
 impl Relation {

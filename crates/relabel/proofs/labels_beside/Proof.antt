@@ -3,13 +3,13 @@ use Prim.Native.Nat.{_-_}
 use native.Mathlib.Omega.{arith}
 use lib.ListN.{length, getD}
 use Rattle.meaning.specs.Plan.{edgesOf}
-use Rattle.relabel.specs.Ranging.{Ranging, rangeable-row, ranging-start, ranging-in, ranging-past, ranging-turn, ranging-end}
+use Rattle.search.specs.Ranging.{Ranging, rangeable-row, ranging-start, ranging-in, ranging-past, ranging-turn, ranging-end}
 use borrow.Author.Needs.{needs}
 use Rattle.relabel.proofs.labels_beside.Statement.{statement}
 use Rattle.relabel.proofs.labels_beside.Tie as tie
 
 abbrev Inv-loop : tie.InvT-loop
-Inv-loop edges start near colouring labels region sector last j₀ low₀ high₀ j low high = Ranging (length start - 1) (edgesOf edges) start near colouring labels region sector low high j
+Inv-loop edges start near colouring labels region sector last j₀ low₀ high₀ j low high = Ranging (length start - 1) (edgesOf edges) start near colouring labels region sector region low high j
 
 abbrev μ-loop : tie.MeasureT-loop
 μ-loop edges start near colouring labels region sector last j₀ low₀ high₀ j low high = getD start region 0 - j

@@ -7,18 +7,13 @@ use lib.ListN.{length, getD}
 use Rattle.lists.specs.Sums.{at}
 use Rattle.meaning.specs.Plan.{edgesOf}
 use Rattle.meaning.specs.Faces.{areaTo}
-use Rattle.search.specs.Weighing.{Weighing, weighable-row, weighing-start, weighing-in, weighing-turn, weighing-fits, weighing-end}
+use Rattle.search.specs.Weighing.{Towards, weighable-row, weighing-start, weighing-in, weighing-turn, weighing-fits, weighing-end}
 use Rattle.search.proofs.areas_of.Statement.{statement}
 use Rattle.search.proofs.areas_of.Tie as tie
 
--- what holds of the sum x of the areas to sector c
-abbrev Towards : (edges start near areas colouring : List ℕ) → ℕ → ℕ → ℕ → ℕ → Type 0
-Towards edges start near areas colouring region c x j =
-    Weighing (length start - 1) (edgesOf edges) start near areas colouring region (λ w. eqb (at colouring w) c) x j
-
 abbrev Inv-loop : tie.InvT-loop
 Inv-loop edges start near areas colouring region own sector last j₀ here₀ there₀ j here there =
-    Towards edges start near areas colouring region own here j × Towards edges start near areas colouring region sector there j
+    Towards (length start - 1) (edgesOf edges) start near areas colouring region own here j × Towards (length start - 1) (edgesOf edges) start near areas colouring region sector there j
 
 abbrev μ-loop : tie.MeasureT-loop
 μ-loop edges start near areas colouring region own sector last j₀ here₀ there₀ j here there = getD start region 0 - j
