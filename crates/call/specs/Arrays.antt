@@ -14,7 +14,7 @@ use Rattle.meaning.specs.Plan.{Plan, planOf, edgeLength, visitLength, constrain
 use Rattle.meaning.specs.Flights.{length-flightsOf}
 use Rattle.meaning.specs.Paths.{Ends, limits-ends}
 use Rattle.meaning.specs.Prices.{timed}
-use Rattle.meaning.specs.PriceLaws.{timed-few, timed-limits}
+use Rattle.meaning.specs.Weighted.{kinds-few, kinds-limits}
 use Rattle.flights.specs.Flying.{Flying, Timing}
 use Rattle.visitors.specs.Visitors.{Visitors}
 use Rattle.refusals.specs.Table.{Given}
@@ -167,8 +167,8 @@ module _ {g : Given} (v : Valid g) where
       timing : {picked : List ℕ} → constraintsOf picked ≡ timed (constraintsOf (g .constraints)) → Timing picked
       timing e =
           record {
-            few = rw e (le-trans (timed-few (constraintsOf (g .constraints))) (v .plan .limits .constraints));
-            constraint = rw e (timed-limits (constraintsOf (g .constraints)) (v .plan .limits .constraint));
+            few = rw e (le-trans (kinds-few 5 5 (constraintsOf (g .constraints))) (v .plan .limits .constraints));
+            constraint = rw e (kinds-limits 5 5 (constraintsOf (g .constraints)) (v .plan .limits .constraint));
           }
 
   -- there is room for the starts

@@ -15,11 +15,11 @@ use Rattle.terms.specs.DistanceLaws.{distance-bound}
 use Rattle.meaning.specs.Plan.{Constraint, Plan, Limits, ConstraintLimits, Coloured, mostRegions, mostSectors, constraintAt, constraintsOf}
 use Rattle.meaning.specs.Kinds.{whole, border, counts, loads, deviation, bounded, total}
 use Rattle.meaning.specs.Components.{counts-length, counts-at, loads-length, loads-at, ncc-sum}
-use Rattle.meaning.specs.Bounds.{ncc-bound, load-bound, whole-bound, border-bound}
+use Rattle.meaning.specs.Bounds.{mostLoad, mostDistance, ncc-bound, load-bound, whole-bound, border-bound}
 use Rattle.meaning.specs.PriceLaws.{dwell-total-bound}
 use Rattle.judge.specs.Figures.{figuresOf, gaugeOf, gauges, constraintCount, totalBy}
 use Rattle.judge.specs.FigureLaws.{gauges-listOf, gauge-at, total-by}
-use Rattle.judge.specs.Small.{mostLoad, mostGap, mostDistance, tallies-small, plan-small, constraint-limits}
+use Rattle.judge.specs.Small.{mostGap, tallies-small, plan-small, constraint-limits}
 use Rattle.change.specs.declared.Change.{Change}
 use Rattle.change.specs.Shift.{each, shift, figuresAfter, gaugeAfter, gaugesAfter, totalAfter}
 use Rattle.change.specs.ShiftLaws.{total-by-gauges}

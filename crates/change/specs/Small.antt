@@ -6,9 +6,10 @@ use mathlib.Core.List.{List}
 use lib.ListN.{length, getD}
 use Rattle.lists.specs.Sums.{sum}
 use Rattle.meaning.specs.Plan.{Constraint, ConstraintLimits, mostSectors, mostWeight, constraintAt}
+use Rattle.meaning.specs.Bounds.{mostLoad}
 use Rattle.judge.specs.declared.Figures.{Figures}
 use Rattle.judge.specs.Figures.{constraintCount, unweighted}
-use Rattle.judge.specs.Small.{Small, mostLoad, mostGauge, unweighted-limits, weighted-bound, total-bound}
+use Rattle.judge.specs.Small.{Small, mostGauge, unweighted-limits, weighted-bound, total-bound}
 use Rattle.change.specs.declared.Pair.{Pair}
 use Rattle.change.specs.declared.Swing.{Swing}
 use Rattle.change.specs.declared.Change.{Change}

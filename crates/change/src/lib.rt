@@ -3,7 +3,7 @@ ghost use mathlib.Core.Path.{_≡_};
 ghost use Prim.Native.Nat.{_≤_, _<_};
 ghost use Rattle.meaning.specs.Plan.{mostSectors, mostLimit};
 ghost use Rattle.judge.specs.Figures.{constraintCount, unweighted};
-ghost use Rattle.judge.specs.Small.{mostLoad};
+ghost use Rattle.meaning.specs.Bounds.{mostLoad};
 ghost use Rattle.change.specs.Shift.{lessOne, offBalance, offLimit, shift, swing, figuresAfter, gaugeAfter, gaugesAfter, weightedAfter, totalAfter, turnedRound, together, inTurn};
 ghost use Rattle.change.specs.Small.{AtMost, Fits, Swings, Shifting, GaugeShifting, GaugesShifting, Totalling, Summable, Addable};
 use judge::Figures;

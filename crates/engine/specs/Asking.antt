@@ -17,13 +17,13 @@ use Rattle.terms.specs.Distance.{gap, distance}
 use Rattle.terms.specs.DistanceLaws.{distance-bound}
 use Rattle.meaning.specs.Plan.{Constraint, Plan, ConstraintLimits, constraintAt, constraintsOf, mostRegions, mostConstraints, mostLimit, mostWeight}
 use Rattle.meaning.specs.Kinds.{ncc, load, whole, areaOf, leadsTo, byKind, offBalance, borderOf, partOf, regionViolation}
-use Rattle.meaning.specs.Bounds.{mostBorder, ncc-bound, load-bound, whole-bound, border-of-bound}
+use Rattle.meaning.specs.Bounds.{mostLoad, mostDistance, mostBorder, ncc-bound, load-bound, whole-bound, border-of-bound}
 use Rattle.meaning.specs.Prices.{timed, visitorsPrice}
-use Rattle.meaning.specs.PriceLaws.{region-parts, cost-bound}
+use Rattle.meaning.specs.PriceLaws.{region-halves, cost-bound}
 use Rattle.neighbours.specs.Table.{Table}
 use Rattle.search.specs.Weighing.{Weighable}
 use Rattle.judge.specs.Figures.{constraintCount, unweighted}
-use Rattle.judge.specs.Small.{mostLoad, mostGap, mostDistance, constraint-limits}
+use Rattle.judge.specs.Small.{mostGap, constraint-limits}
 use Rattle.engine.specs.declared.ask.Own.{Own}
 use Rattle.engine.specs.Memory.{countAt, Kept, kept-sides}
 
@@ -192,4 +192,4 @@ module _ {P : Plan} {W : ℕ} {start near areas col w : List ℕ} {v : ℕ} (a :
           (sum-all (from 0 (constraintCount constraints)) _ _ (λ i. ap (λ t. constraintAt constraints i .weight * t) (own-part P col v (constraintAt constraints i)))
           ∙ sym (sum-map (constraintAt constraints) (from 0 (constraintCount constraints)) (λ k. k .weight * keptPart P col v k))
           ∙ ap (λ ks. sum ks (λ k. k .weight * keptPart P col v k)) (sym c))
-          ∙ sym (region-parts P col v))
+          ∙ sym (region-halves P col v))

@@ -13,11 +13,12 @@ use Rattle.lists.specs.Few.{Few}
 use Rattle.meaning.specs.Plan.{Plan, Limits, Coloured, ConstraintLimits, constraintAt, constraintsOf, mostRegions, mostSectors, mostArea}
 use Rattle.meaning.specs.Joined.{labels, leads}
 use Rattle.meaning.specs.Kinds.{whole, crosses, areaOf, border, counts, loads, total}
+use Rattle.meaning.specs.Bounds.{mostLoad}
 use Rattle.meaning.specs.Prices.{dwellTotal}
 use Rattle.neighbours.specs.Net.{Net, table-net}
 use Rattle.judge.specs.declared.Figures.{Figures}
 use Rattle.judge.specs.Figures.{figuresOf, figuresBy, gauges, gaugesBy, constraintCount, totalBy, tally}
-use Rattle.judge.specs.Small.{mostLoad, SmallEdges, SmallTallies, Small, outside-small, edges-small, tallies-small, loads-small, plan-small}
+use Rattle.judge.specs.Small.{SmallEdges, SmallTallies, Small, outside-small, edges-small, tallies-small, loads-small, plan-small}
 use Rattle.judge.specs.Tallies.{Tallying, plan-tallying, counts-by, loads-by}
 use Rattle.judge.specs.FigureLaws.{border-by, figures-by, gauges-by, total-by}
 use Rattle.relabel.specs.Labelling.{Labellable}

@@ -8,17 +8,18 @@ use mathlib.Core.List.{List, [], _∷_, _++_, append-nil, append-assoc}
 use mathlib.Core.Bool.{Bool, true, false, cond}
 use mathlib.Core.Logic.{_≢_}
 use borrow.Author.Tests.{eq-eqb, ne-eqb}
-use lib.Dec.{eqb}
 use lib.ListN.{length, getD, take, drop, length-append, length-drop, drop-of-length-le, List·getD-append}
 use lib.Seq.{length-take-le, take-suc, take-at, getD-take, getD-drop, getD-append-add}
+use Rattle.terms.specs.Plan.{within}
 use Rattle.meaning.specs.Plan.{Constraint, constraintLength, constraintAt, constraintsOf}
-use Rattle.meaning.specs.Prices.{timed}
+use Rattle.meaning.specs.Prices.{ofKinds, timed}
+use Rattle.meaning.specs.Weighted.{within-one}
 use Rattle.flights.specs.Constraints.{length-constraints, constraint-at, constraint-next, constraint-same, constraints-take}
 
 -- the constraints of kind 5 among one and others
 timed-cons : (k : Constraint) (ks : List Constraint) → timed (k ∷ ks) ≡ timed (k ∷ []) ++ timed ks
-unfolding timed
-timed-cons k ks = go (eqb (k .kind) 5)
+unfolding ofKinds
+timed-cons k ks = go (within 5 (k .kind) 5)
   where
     go : (t : Bool) → cond t (k ∷ timed ks) (timed ks) ≡ cond t (k ∷ []) [] ++ timed ks
     go true = refl
@@ -40,8 +41,8 @@ pub record Picks (cs before : List ℕ) (k n : ℕ) (after : List ℕ) (r : ℕ)
 module _ {cs before : List ℕ} {k n : ℕ} (g : Picking cs before k n) where
   -- one of another kind is not put down
   pub picks-other : constraintAt cs k .kind ≢ 5 → Picks cs before k n before n
-  unfolding timed
-  picks-other e = record { few = omega arith; are = rw (ne-eqb _ _ e, append-nil) }
+  unfolding ofKinds
+  picks-other e = record { few = omega arith; are = rw (within-one, ne-eqb _ _ e, append-nil) }
 
   -- how many numbers it has, from its first to its last
   abbrev width : ℕ
@@ -92,13 +93,13 @@ module _ {cs before : List ℕ} {k n : ℕ} (g : Picking cs before k n) where
 
     -- one of kind 5 is put down
     pub picks-own : constraintAt cs k .kind ≡ 5 → Picks cs before k n (take (constraintLength * n) before ++ (put ++ past)) (n + 1)
-    unfolding timed
+    unfolding ofKinds
     picks-own e =
         let h : n < length after / constraintLength = omega (arith, after-length) in
         record {
           few = omega arith;
           are =
-              rw (add-one n, eq-eqb _ _ e, ← after-others, ← after-own, ← constraint-at after h (constraintAt cs k))
+              rw (add-one n, within-one, eq-eqb _ _ e, ← after-others, ← after-own, ← constraint-at after h (constraintAt cs k))
               (take-suc (constraintsOf after) n (constraintAt cs k) (omega (arith, length-constraints after)));
         }
 
@@ -124,7 +125,7 @@ module _ {cs out₀ : List ℕ} where
 
     -- past the last they are all of kind 5
     pub picked-end : length cs / constraintLength ≤ k → constraintsOf (take (constraintLength * n) out) ≡ timed (constraintsOf cs)
-    unfolding timed
+    unfolding ofKinds
     picked-end h =
         constraints-take n out picked-room
         ∙ (rw (drop-of-length-le (constraintsOf cs) {i = k} (omega (arith, length-constraints cs)), append-nil) at (p .rest))

@@ -28,7 +28,7 @@ priceBy seconds k = k .weight * distance (k .relation) seconds (k .limit)
 module _ {timed : List ℕ} (t : Timing timed) where
   -- a stretch costs at most 16 * 1,000 times the most that it may be from a limit
   pub timing-bound : {seconds : ℕ} → seconds ≤ mostVisits * mostDwell → price (constraintsOf timed) seconds ≤ mostConstraints * (mostWeight * mostOff)
-  timing-bound h = price-bound (constraintsOf timed) (t .few) (t .constraint) _ h
+  timing-bound h = price-bound (constraintsOf timed) (t .few) (t .constraint) mostOff _ (omega arith)
 
   -- each constraint keeps to its limits
   pub timing-limits : {k : ℕ} → k < length timed / constraintLength → ConstraintLimits (constraintAt timed k)

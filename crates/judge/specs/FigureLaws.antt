@@ -17,7 +17,7 @@ use Rattle.meaning.specs.Kinds.{whole, crosses, areaOf, outsideArea, border, co
 use Rattle.meaning.specs.Components.{ncc-sum}
 use Rattle.meaning.specs.Moves.{verdict, verdictsOf, verdicts}
 use Rattle.meaning.specs.Prices.{dwellTotal}
-use Rattle.meaning.specs.PriceLaws.{total-parts}
+use Rattle.meaning.specs.PriceLaws.{total-halves}
 use Rattle.judge.specs.Figures.{figuresOf, figuresBy, gaugeOf, gauges, verdictGaugeOf, verdictGauges, gaugeBy, gaugesBy, constraintCount, violationBy, violationAt, totalBy, judged, verdictsBy}
 
 -- the places of the constraints in the flat list, from 0
@@ -119,7 +119,7 @@ module _ (P : Plan) where
           (every-turn (λ i h. ap (λ v. constraintAt constraints i .weight * v) h) (places constraints) (violations-at (gauges P col) (gaugeOf P col) keptViolation gauges-listOf kept-violation))
           ∙ sym (sum-map (constraintAt constraints) (places constraints) (λ k. k .weight * keptViolation k))
           ∙ ap (λ ks. sum ks (λ k. k .weight * keptViolation k)) (sym e))
-          ∙ sym (total-parts P col)
+          ∙ sym (total-halves P col)
 
       -- with the gauges that they ask for they make the verdicts
       pub verdicts-by : verdictsBy (figuresOf P col) (verdictGauges P col) constraints (constraintCount constraints) ≡ verdicts P col

@@ -19,23 +19,15 @@ use Rattle.meaning.specs.Plan.{Edge, Constraint, Plan, Limits, ConstraintLimits
 use Rattle.meaning.specs.Joined.{labels, leads}
 use Rattle.meaning.specs.Kinds.{ncc, nccAll, load, whole, areaOf, counts, loads, bounded, byKind}
 use Rattle.meaning.specs.Paths.{Ends, limits-ends}
-use Rattle.meaning.specs.Bounds.{mostBorder, mostDwelling, count-bound, ncc-bound, load-bound, whole-bound, border-bound, deviation-bound, dwelling-bound}
+use Rattle.meaning.specs.Bounds.{mostLoad, mostDistance, mostBorder, mostDwelling, count-bound, ncc-bound, load-bound, whole-bound, border-bound, deviation-bound, dwelling-bound}
 use Rattle.meaning.specs.Prices.{mostDwellTotal}
 use Rattle.meaning.specs.PriceLaws.{dwell-total-bound}
 use Rattle.judge.specs.declared.Figures.{Figures}
 use Rattle.judge.specs.Figures.{figuresOf, gaugeOf, gauges, verdictGaugeOf, verdictGauges, constraintCount, unweighted, violationBy, weightedAt, totalBy}
 
--- the most workload that a sector, or the whole plan, can have
-abbrev pub mostLoad : ℕ
-mostLoad = mostRegions * mostWorkload
-
--- the most that such a workload can be off the balance
+-- the most that the workload of a sector can be off the balance
 abbrev pub mostGap : ℕ
 mostGap = mostSectors * mostLoad
-
--- the largest distance that such a workload can have from a limit
-abbrev pub mostDistance : ℕ
-mostDistance = mostLoad + mostLimit + 1
 
 -- the most that a constraint's gauge, or its violation, can be: what kind 5 may have
 abbrev pub mostGauge : ℕ

@@ -25,6 +25,14 @@ by-kind-bound kind ha hb hc hd he =
     cond-le (eqb kind 1) ha
     (cond-le (eqb kind 2) hb (cond-le (eqb kind 3) hc (cond-le (eqb kind 4) hd (cond-le (eqb kind 5) he (omega arith)))))
 
+-- the most workload that a sector, or the whole plan, can have
+abbrev pub mostLoad : ℕ
+mostLoad = mostRegions * mostWorkload
+
+-- the largest distance that such a workload can have from a limit
+abbrev pub mostDistance : ℕ
+mostDistance = mostLoad + mostLimit + 1
+
 -- the most that a stretch may be from a limit: 32 * 86,400 + 10 ^ 11 + 1
 abbrev pub mostOff : ℕ
 mostOff = 100_002_764_801

@@ -13,6 +13,7 @@ pub mod Bounds
 pub mod StretchLaws
 pub mod Stretched
 pub mod Prices
+pub mod Weighted
 pub mod PriceLaws
 pub mod MoveLaws
 pub mod Deltas

@@ -1,85 +1,57 @@
 -- What the constraints of kind 5 add to the total and to a region's violation is the price of the flights; how a recolouring changes it, and how large it gets.
 -- Assumes nothing.
-use Prim.Native.Nat.{ℕ, _+_, _*_, _≤_}
+use Prim.Native.Nat.{ℕ, _+_, _-_, _*_, _≤_}
 use native.Mathlib.Nat.{mul-zero, mul-le-mul, le-trans}
 use native.Mathlib.Omega.{arith}
-use mathlib.Core.Path.{_≡_, refl, _∙_}
+use mathlib.Core.Path.{_≡_, refl, sym, _∙_}
 use mathlib.Core.List.{List, [], _∷_}
 use mathlib.Core.Bool.{Bool, true, false, cond, _||_}
 use borrow.Author.Tests.{eqb-true}
 use lib.Dec.{eqb}
 use lib.ListN.{length}
 use Rattle.lists.specs.Sums.{In, at, sum, Every}
-use Rattle.lists.specs.SumLaws.{sum-ext, sum-all, mul-sum, sum-add, sum-zero, sum-swap, few-bound, every-all, every-turn}
+use Rattle.lists.specs.SumLaws.{sum-ext, sum-all, sum-add, sum-zero, sum-map, few-bound, every-all, every-turn, length-table, at-table}
+use Rattle.lists.specs.Few.{Few, few-sum, few-table}
 use Rattle.lists.specs.Tests.{cond-le, cond-same}
+use Rattle.terms.specs.Plan.{within}
+use Rattle.terms.specs.Distance.{distance}
 use Rattle.terms.specs.DistanceLaws.{distance-bound}
-use Rattle.meaning.specs.Plan.{Visit, Constraint, Plan, mostFlights, mostVisits, mostDwell, mostConstraints, mostWeight, FlightLimits, ConstraintLimits, Limits}
+use Rattle.meaning.specs.Plan.{Visit, Constraint, Plan, sectors, mostSectors, mostFlights, mostVisits, mostDwell, mostConstraints, mostLimit, mostWeight, FlightLimits, ConstraintLimits, Limits}
 use Rattle.meaning.specs.Stretches.{stretches, dwellOf, visits}
 use Rattle.meaning.specs.StretchLaws.{stretches-elsewhere, stretches-recolour}
-use Rattle.meaning.specs.Kinds.{overStretches, offDwell, dwelling, violation, total, dwellingOf, partOf, regionViolation}
+use Rattle.meaning.specs.Kinds.{ncc, load, loads, offBalance, bounded, overStretches, offDwell, dwelling, violation, total, borderOf, dwellingOf, partOf, regionViolation}
 use Rattle.meaning.specs.Moves.{recolour}
 use Rattle.meaning.specs.Holds.{by-kind-5}
-use Rattle.meaning.specs.Bounds.{mostOff, flight-bound}
-use Rattle.meaning.specs.Prices.{timed, price, flightPrice, flightsPrice, visitorsPrice, dwellTotal, mostDwellTotal}
+use Rattle.meaning.specs.Bounds.{mostOff, mostDistance, flight-bound, load-bound}
+use Rattle.meaning.specs.Prices.{shared, limited, timed, weighted, weightOf, price, sectorPrice, prices, limitTotal, mostSectorPrice, mostLimitTotal, flightPrice, flightsPrice, visitorsPrice, dwellTotal, mostDwellTotal}
+use Rattle.meaning.specs.Weighted.{kinds-limits, kinds-few, kinds-sum, kind-sum, weighted-all, weighted-add, weighted-sum, weighted-cond, shared-sum, kinds-apart}
 
--- ---- constraints by their weight
+-- ---- what the constraints of kind 4 add
 
--- a number for each constraint, times the weight, summed
-abbrev weighted : List Constraint → (Constraint → ℕ) → ℕ
-weighted ks f = sum ks (λ k. k .weight * f k)
+module _ (P : Plan) (col : List ℕ) where
+  -- it is the price of the workload of each sector
+  pub limit-total : limitTotal P col ≡ sum (loads P col) (price (limited (P .constraints)))
+  unfolding limitTotal bounded price
+  limit-total =
+      kind-sum 4 (P .constraints) (bounded P col)
+      ∙ weighted-sum (limited (P .constraints)) (loads P col) (λ k x. distance (k .relation) x (k .limit))
 
--- only the constraints of kind 5 add to a sum that gives 0 to all others
-timed-sum : (ks : List Constraint) (f : Constraint → ℕ) → weighted ks (λ k. cond (eqb (k .kind) 5) (f k) 0) ≡ weighted (timed ks) f
-unfolding timed
-timed-sum [] f = refl
-timed-sum (k ∷ ks) f = go (eqb (k .kind) 5) (timed-sum ks f)
-  where
-    go : (t : Bool) → weighted ks (λ k. cond (eqb (k .kind) 5) (f k) 0) ≡ weighted (timed ks) f
-        → k .weight * cond t (f k) 0 + weighted ks (λ k. cond (eqb (k .kind) 5) (f k) 0) ≡ weighted (cond t (k ∷ timed ks) (timed ks)) f
-    go true e = omega arith
-    go false e = omega arith
+  -- the prices of the sectors, summed
+  pub prices-total : limitTotal P col ≡ sum (prices P col) (λ x. x)
+  unfolding prices sectorPrice loads
+  prices-total = limit-total ∙ sum-map (load P col) (sectors P) (price (limited (P .constraints))) ∙ sym (sum-map (sectorPrice P col) (sectors P) (λ x. x))
 
--- a sum for each constraint: the weighted sums of its terms, summed
-weighted-sum : {A : Type 0} (ks : List Constraint) (xs : List A) (f : Constraint → A → ℕ) → weighted ks (λ k. sum xs (f k)) ≡ sum xs (λ x. weighted ks (λ k. f k x))
-weighted-sum ks xs f = sum-all ks _ _ (λ k. mul-sum (k .weight) xs (f k)) ∙ sum-swap ks xs (λ k x. k .weight * f k x)
+  -- there is a price for each sector, empty or not
+  pub prices-length : length (prices P col) ≡ P .S
+  unfolding prices
+  prices-length = length-table (P .S) (sectorPrice P col)
 
--- where a test fails nothing is weighed
-weighted-cond : (t : Bool) (ks : List Constraint) (f : Constraint → ℕ) → weighted ks (λ k. cond t (f k) 0) ≡ cond t (weighted ks f) 0
-weighted-cond true ks f = refl
-weighted-cond false ks f = sum-zero ks _ (every-all _ (λ k. mul-zero (k .weight)) ks)
+  -- that of sector c is what it pays
+  pub prices-at : (c : ℕ) → In (P .S) c → at (prices P col) c ≡ sectorPrice P col c
+  unfolding prices
+  prices-at = at-table (P .S) (sectorPrice P col)
 
--- kind 5 apart from the others
-weighted-parts : (ks : List Constraint) (f g : Constraint → ℕ) → ((k : Constraint) → k .kind ≡ 5 → f k ≡ g k)
-    → weighted ks f ≡ weighted ks (λ k. cond (eqb (k .kind) 5) 0 (f k)) + weighted ks (λ k. cond (eqb (k .kind) 5) (g k) 0)
-weighted-parts ks f g h = sum-all ks _ _ (λ k. go k (eqb (k .kind) 5) refl) ∙ sum-add ks _ _
-  where
-    go : (k : Constraint) (t : Bool) → eqb (k .kind) 5 ≡ t → k .weight * f k ≡ k .weight * cond t 0 (f k) + k .weight * cond t (g k) 0
-    go k true e = rw (h k (eqb-true (k .kind) 5 e)) (omega (arith, mul-zero (k .weight)))
-    go k false e = omega (arith, mul-zero (k .weight))
-
--- ---- the constraints of kind 5
-
--- they keep the limits that all constraints keep
-pub timed-limits : (ks : List Constraint) → Every ConstraintLimits ks → Every ConstraintLimits (timed ks)
-unfolding timed
-timed-limits [] l = tt
-timed-limits (k ∷ ks) l = go (eqb (k .kind) 5) (timed-limits ks (l .1))
-  where
-    go : (t : Bool) → Every ConstraintLimits (timed ks) → Every ConstraintLimits (cond t (k ∷ timed ks) (timed ks))
-    go true r = (l .0, r)
-    go false r = r
-
--- there are no more of them
-pub timed-few : (ks : List Constraint) → length (timed ks) ≤ length ks
-unfolding timed
-timed-few [] = omega arith
-timed-few (k ∷ ks) = go (eqb (k .kind) 5) (timed-few ks)
-  where
-    go : (t : Bool) → length (timed ks) ≤ length ks → length (cond t (k ∷ timed ks) (timed ks)) ≤ length (k ∷ ks)
-    go true r = omega arith
-    go false r = omega arith
-
--- ---- what they add
+-- ---- what the constraints of kind 5 add
 
 -- a flight that does not visit region v has no stretch that does
 elsewhere-price : (ks : List Constraint) (col : List ℕ) (v : ℕ) (flight : List Visit) → flightPrice ks col false v flight ≡ cond (visits v flight) (flightPrice ks col false v flight) 0
@@ -104,7 +76,7 @@ module _ (P : Plan) (col : List ℕ) where
   unfolding flightPrice price
   timed-price all v =
       let ks = timed (P .constraints) in
-      timed-sum (P .constraints) _
+      kind-sum 5 (P .constraints) _
       ∙ weighted-over ks (λ k s. cond (all || visits v s) (offDwell k s) 0)
       ∙ sum-all (P .flights) _ _ (λ flight. sum-all (stretches col flight) _ _ (λ s. weighted-cond (all || visits v s) ks (λ k. offDwell k s)))
 
@@ -118,19 +90,6 @@ module _ (P : Plan) (col : List ℕ) where
   unfolding dwellingOf visitorsPrice
   part-total v = timed-price false v ∙ sum-all (P .flights) _ _ (elsewhere-price (timed (P .constraints)) col v)
 
-  -- the total: what the other kinds add, and what kind 5 adds
-  pub total-parts : total P col ≡ weighted (P .constraints) (λ k. cond (eqb (k .kind) 5) 0 (violation P col k)) + dwellTotal P col
-  unfolding total violation dwellTotal
-  total-parts = weighted-parts (P .constraints) (violation P col) (dwelling P col) (λ k e. by-kind-5 _ _ _ _ _ e)
-
-  -- a region's violation likewise
-  pub region-parts : (v : ℕ)
-      → regionViolation P col v
-      ≡ weighted (P .constraints) (λ k. cond (eqb (k .kind) 5) 0 (partOf P col v (at col v) k)) + visitorsPrice (timed (P .constraints)) col false v (P .flights)
-  unfolding regionViolation partOf
-  region-parts v =
-      omega (arith, weighted-parts (P .constraints) (partOf P col v (at col v)) (dwellingOf P col v) (λ k e. by-kind-5 _ _ _ _ _ e), part-total v)
-
 -- without constraints there is nothing to pay
 pub visitors-none : (col : List ℕ) (all : Bool) (v : ℕ) (flights : List (List Visit)) → visitorsPrice [] col all v flights ≡ 0
 unfolding visitorsPrice flightPrice price
@@ -142,6 +101,65 @@ visitors-none col all v flights = sum-zero flights _ (every-all _ (λ flight. no
     nothing : (t : Bool) {n : ℕ} → n ≡ 0 → cond t n 0 ≡ 0
     nothing true e = e
     nothing false e = refl
+
+-- ---- the kinds together
+
+module _ (P : Plan) (col : List ℕ) where
+  -- the constraints of the kinds 1 to 3, of kind 4 and of kind 5, each by itself
+  kinds-parts : (f g h : Constraint → ℕ) → ((k : Constraint) → f k ≡ cond (within 1 (k .kind) 3) (f k) 0 + cond (eqb (k .kind) 4) (g k) 0 + cond (eqb (k .kind) 5) (h k) 0)
+      → weighted (P .constraints) f
+      ≡ weighted (shared (P .constraints)) f + weighted (P .constraints) (λ k. cond (eqb (k .kind) 4) (g k) 0) + weighted (P .constraints) (λ k. cond (eqb (k .kind) 5) (h k) 0)
+  kinds-parts f g h law =
+      let ks = P .constraints in
+      weighted-all ks _ _ law
+      ∙ weighted-add ks (λ k. cond (within 1 (k .kind) 3) (f k) 0 + cond (eqb (k .kind) 4) (g k) 0) (λ k. cond (eqb (k .kind) 5) (h k) 0)
+      ∙ omega (arith, weighted-add ks (λ k. cond (within 1 (k .kind) 3) (f k) 0) (λ k. cond (eqb (k .kind) 4) (g k) 0), kinds-sum 1 3 ks f)
+
+  -- the total: what the kinds 1 to 3 add, what kind 4 adds and what kind 5 adds
+  pub total-parts : total P col ≡ weighted (shared (P .constraints)) (violation P col) + limitTotal P col + dwellTotal P col
+  unfolding total violation limitTotal dwellTotal
+  total-parts = kinds-parts (violation P col) (bounded P col) (dwelling P col) (λ k. kinds-apart _ _ _ _ _ (k .kind))
+
+  module _ (v : ℕ) where
+    -- a region's violation: what it has by the kinds 1 to 3, what its sector pays, and the price of its visitors
+    pub region-parts : regionViolation P col v
+        ≡ weighted (shared (P .constraints)) (partOf P col v (at col v)) + sectorPrice P col (at col v) + visitorsPrice (timed (P .constraints)) col false v (P .flights)
+    unfolding regionViolation partOf sectorPrice price
+    region-parts =
+        kinds-parts (partOf P col v (at col v)) (λ k. distance (k .relation) (load P col (at col v)) (k .limit)) (dwellingOf P col v) (λ k. kinds-apart _ _ _ _ _ (k .kind))
+        ∙ omega (arith, kind-sum 4 (P .constraints) (λ k. distance (k .relation) (load P col (at col v)) (k .limit)), part-total P col v)
+
+    -- what it has, in sector c, by the kinds 1 to 3
+    pub shared-parts : (c : ℕ) (ks : List Constraint)
+        → weighted (shared ks) (partOf P col v c)
+        ≡ weightOf 1 ks * (ncc P col c - 1) + weightOf 2 ks * borderOf P col v + weightOf 3 ks * offBalance P (load P col c)
+    unfolding partOf
+    shared-parts c ks = sym (kinds-sum 1 3 ks (partOf P col v c)) ∙ shared-sum ks _ _ _ _ _
+
+-- ---- kind 5 apart from all others
+
+-- the constraints of kind 5, and the others
+weighted-parts : (ks : List Constraint) (f g : Constraint → ℕ) → ((k : Constraint) → k .kind ≡ 5 → f k ≡ g k)
+    → weighted ks f ≡ weighted ks (λ k. cond (eqb (k .kind) 5) 0 (f k)) + weighted ks (λ k. cond (eqb (k .kind) 5) (g k) 0)
+weighted-parts ks f g h = sum-all ks _ _ (λ k. go k (eqb (k .kind) 5) refl) ∙ sum-add ks _ _
+  where
+    go : (k : Constraint) (t : Bool) → eqb (k .kind) 5 ≡ t → k .weight * f k ≡ k .weight * cond t 0 (f k) + k .weight * cond t (g k) 0
+    go k true e = rw (h k (eqb-true (k .kind) 5 e)) (omega (arith, mul-zero (k .weight)))
+    go k false e = omega (arith, mul-zero (k .weight))
+
+module _ (P : Plan) (col : List ℕ) where
+  -- the total: what the other kinds add, and what kind 5 adds
+  pub total-halves : total P col ≡ weighted (P .constraints) (λ k. cond (eqb (k .kind) 5) 0 (violation P col k)) + dwellTotal P col
+  unfolding total violation dwellTotal
+  total-halves = weighted-parts (P .constraints) (violation P col) (dwelling P col) (λ k e. by-kind-5 _ _ _ _ _ e)
+
+  -- a region's violation likewise
+  pub region-halves : (v : ℕ)
+      → regionViolation P col v
+      ≡ weighted (P .constraints) (λ k. cond (eqb (k .kind) 5) 0 (partOf P col v (at col v) k)) + visitorsPrice (timed (P .constraints)) col false v (P .flights)
+  unfolding regionViolation partOf
+  region-halves v =
+      omega (arith, weighted-parts (P .constraints) (partOf P col v (at col v)) (dwellingOf P col v) (λ k e. by-kind-5 _ _ _ _ _ e), part-total P col v)
 
 -- ---- how a recolouring changes it
 
@@ -177,12 +195,12 @@ module _ {P : Plan} (l : Limits P) {v : ℕ} (i : In (P .R) v) (col : List ℕ) 
 -- ---- how large it gets
 
 module _ (ks : List Constraint) (few : length ks ≤ mostConstraints) (each : Every ConstraintLimits ks) where
-  -- a stretch costs at most 16 * 1,000 times the most that it may be from a limit
-  pub price-bound : (seconds : ℕ) → seconds ≤ mostVisits * mostDwell → price ks seconds ≤ mostConstraints * (mostWeight * mostOff)
+  -- a number that is at most B from each limit costs at most 16 * 1,000 times as much
+  pub price-bound : (B x : ℕ) → x + mostLimit + 1 ≤ B → price ks x ≤ mostConstraints * (mostWeight * B)
   unfolding price
-  price-bound seconds h =
-      few-bound mostConstraints (mostWeight * mostOff) ks _ few
-      (every-turn (λ k c. mul-le-mul {m₂ = mostOff} (c .weight .high) (omega (arith, c .limit, distance-bound (k .relation) seconds (k .limit)))) ks each)
+  price-bound B x h =
+      few-bound mostConstraints (mostWeight * B) ks _ few
+      (every-turn (λ k c. mul-le-mul {m₂ = B} (c .weight .high) (omega (arith, c .limit, distance-bound (k .relation) x (k .limit)))) ks each)
 
   -- a flight has at most 32 stretches
   pub flight-price-bound : {R : ℕ} (col : List ℕ) (all : Bool) (v : ℕ) {flight : List Visit} → FlightLimits R flight
@@ -190,7 +208,7 @@ module _ (ks : List Constraint) (few : length ks ≤ mostConstraints) (each : Ev
   unfolding flightPrice
   flight-price-bound col all v {flight} l =
       flight-bound col flight l (mostConstraints * (mostWeight * mostOff)) _
-      (λ s h. cond-le (all || visits v s) (price-bound (dwellOf s) h) (omega arith))
+      (λ s h. cond-le (all || visits v s) (price-bound mostOff (dwellOf s) (omega arith)) (omega arith))
 
   module _ (R : ℕ) (col : List ℕ) (flights : List (List Visit)) (n : length flights ≤ mostFlights) (l : Every (FlightLimits R) flights) where
     -- there are at most 64 flights
@@ -206,15 +224,31 @@ module _ (ks : List Constraint) (few : length ks ≤ mostConstraints) (each : Ev
         (every-turn (λ flight f. cond-le (visits v flight) (flight-price-bound col all v f) (omega arith)) flights l)
 
 module _ {P : Plan} (l : Limits P) (col : List ℕ) where
-  -- so large may get what kind 5 adds to the total
+  -- a workload costs a sector at most 16 * 1,000 times the largest distance
+  pub sector-price-bound : (c : ℕ) → sectorPrice P col c ≤ mostSectorPrice
+  unfolding sectorPrice
+  sector-price-bound c =
+      price-bound (limited (P .constraints)) (le-trans (kinds-few 4 4 (P .constraints)) (l .constraints)) (kinds-limits 4 4 (P .constraints) (l .constraint))
+      mostDistance (load P col c) (omega (arith, load-bound P l col c))
+
+  -- there are at most 64 sectors
+  pub prices-few : Few mostSectors mostSectorPrice (prices P col)
+  unfolding prices
+  prices-few = few-table (P .S) (sectorPrice P col) (l .S .high) sector-price-bound
+
+  -- so large may get what kind 4 adds to the total
+  pub limit-total-bound : limitTotal P col ≤ mostLimitTotal
+  limit-total-bound = rw (prices-total P col) (few-sum prices-few mostSectorPrice (λ x. x) (λ x h. h))
+
+  -- so large what kind 5 adds
   pub dwell-total-bound : dwellTotal P col ≤ mostDwellTotal
   dwell-total-bound =
       rw (dwell-total P col)
-      (flights-price-bound (timed (P .constraints)) (le-trans (timed-few (P .constraints)) (l .constraints)) (timed-limits (P .constraints) (l .constraint))
+      (flights-price-bound (timed (P .constraints)) (le-trans (kinds-few 5 5 (P .constraints)) (l .constraints)) (kinds-limits 5 5 (P .constraints) (l .constraint))
       (P .R) col (P .flights) (l .flights) (l .flight))
 
   -- and what the flights cost that visit a region
   pub cost-bound : (all : Bool) (v : ℕ) → visitorsPrice (timed (P .constraints)) col all v (P .flights) ≤ mostDwellTotal
   cost-bound =
-      visitors-price-bound (timed (P .constraints)) (le-trans (timed-few (P .constraints)) (l .constraints)) (timed-limits (P .constraints) (l .constraint))
+      visitors-price-bound (timed (P .constraints)) (le-trans (kinds-few 5 5 (P .constraints)) (l .constraints)) (kinds-limits 5 5 (P .constraints) (l .constraint))
       (P .R) col (P .flights) (l .flights) (l .flight)
