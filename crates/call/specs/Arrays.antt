@@ -15,7 +15,8 @@ use Rattle.meaning.specs.Flights.{length-flightsOf}
 use Rattle.meaning.specs.Paths.{Ends, limits-ends}
 use Rattle.meaning.specs.Prices.{timed}
 use Rattle.meaning.specs.Weighted.{kinds-few, kinds-limits}
-use Rattle.flights.specs.Flying.{Flying, Timing}
+use Rattle.kinds.specs.Constraints.{Paying}
+use Rattle.flights.specs.Flying.{Flying}
 use Rattle.visitors.specs.Visitors.{Visitors}
 use Rattle.refusals.specs.Table.{Given}
 use Rattle.refusals.specs.Valid.{Valid}
@@ -164,7 +165,7 @@ module _ {g : Given} (v : Valid g) where
         picked = e;
       }
     where
-      timing : {picked : List ℕ} → constraintsOf picked ≡ timed (constraintsOf (g .constraints)) → Timing picked
+      timing : {picked : List ℕ} → constraintsOf picked ≡ timed (constraintsOf (g .constraints)) → Paying picked
       timing e =
           record {
             few = rw e (le-trans (kinds-few 5 5 (constraintsOf (g .constraints))) (v .plan .limits .constraints));

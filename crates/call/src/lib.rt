@@ -6,12 +6,13 @@ ghost use Rattle.call.specs.Promise.{Input, Promise, input, given, planI
 ghost use Rattle.engine.specs.State.{Setting, Opening};
 ghost use Rattle.engine.specs.Flown.{Priced, Flown};
 use flights::gauging::gauge_dwells;
-use flights::picking::pick_timed;
 use judge::verdicts::put_verdicts;
+use kinds::pick;
 use lists::sum_of;
 use neighbours::gather;
 use refusals::call_refusal;
 use terms::limits::CONSTRAINT_LENGTH;
+use terms::limits::DWELL;
 use terms::limits::MOST_CONSTRAINTS;
 use terms::limits::MOST_EDGES;
 use terms::limits::MOST_FLIGHTS;
@@ -217,7 +218,7 @@ fn run(
     let count = constraints.len() / CONSTRAINT_LENGTH;
     gather(edges, &mut start[..starts], &mut near, &mut areas);
     let whole = sum_of(workloads);
-    let picked = CONSTRAINT_LENGTH * pick_timed(constraints, &mut timed);
+    let picked = CONSTRAINT_LENGTH * pick(constraints, DWELL, DWELL, &mut timed);
     if picked == 0 {
         return judge_all(
             sectors,

@@ -9,7 +9,8 @@ use Rattle.meaning.specs.Plan.{Plan, Coloured, flightsOf, constraintsOf}
 use Rattle.meaning.specs.Prices.{flightsPrice, visitorsPrice, dwellTotal}
 use Rattle.meaning.specs.Prices as meaning
 use Rattle.meaning.specs.PriceLaws.{dwell-total}
-use Rattle.flights.specs.Flying.{Flying, Timing}
+use Rattle.kinds.specs.Constraints.{Paying}
+use Rattle.flights.specs.Flying.{Flying}
 use Rattle.visitors.specs.Visitors.{Visitors, Pricing}
 use Rattle.visitors.specs.AlongBoth.{VisitorsDiffer}
 use Rattle.change.specs.declared.Swing.{Swing}
@@ -18,7 +19,7 @@ use Rattle.change.specs.Changed.{Costs}
 -- the flat lists hold the plan's flights and its constraints of kind 5
 pub record Priced (P : Plan) (timed counts visits : List ℕ) : Type 0 where
   pub flying : Flying (P .R) counts visits
-  pub timing : Timing timed
+  pub timing : Paying timed
   pub flights : P .flights ≡ flightsOf counts visits
   pub picked : constraintsOf timed ≡ meaning.timed (P .constraints)
 

@@ -14,7 +14,7 @@ use Rattle.meaning.specs.Plan.{Visit, Constraint, visitLength, visitAt, visitsO
 use Rattle.meaning.specs.Stretches.{sectorOf}
 use Rattle.meaning.specs.Prices.{price, flightPrice}
 use Rattle.meaning.specs.Moves.{recolour}
-use Rattle.flights.specs.Flying.{Timing}
+use Rattle.kinds.specs.Constraints.{Paying}
 use Rattle.flights.specs.FirstStretch.{alone, joined, broken, priceFrom, withVisit, Fits, Visiting, visiting-limits, visiting-fits, Taken, taken-last, taken-fits, taken-before, taken-turn, taken-end}
 use Rattle.flights.specs.declared.pricing.Stretch.{Stretch}
 use Rattle.flights.specs.declared.pricing.Stretches.{Stretches}
@@ -219,7 +219,7 @@ pub record Walked (timed flight col : List ℕ) (v d k : ℕ) (t : Stretches) : 
 
 module _ {timed flight col : List ℕ} {v d : ℕ} where
   -- the last visit is taken
-  pub walked-last : {t : Stretches} → Timing timed → FlightLimits (length col) (visitsOf flight)
+  pub walked-last : {t : Stretches} → Paying timed → FlightLimits (length col) (visitsOf flight)
       → t ≡ aloneBoth col v d (visitAt flight (length flight / visitLength - 1)) → Walked timed flight col v d (length flight / visitLength - 1) t
   walked-last {t} x l p =
       let b : Taken timed flight col true v (length flight / visitLength - 1) (t .before) = taken-last x l (ap (λ s. s .before) p) in

@@ -18,7 +18,7 @@ use Rattle.meaning.specs.Stretches.{sectorOf, before, stretches, dwellOf, visit
 use Rattle.meaning.specs.Bounds.{stretch-bound}
 use Rattle.meaning.specs.Prices.{price, flightPrice}
 use Rattle.meaning.specs.PriceLaws.{flight-price-bound}
-use Rattle.flights.specs.Flying.{Timing}
+use Rattle.kinds.specs.Constraints.{Paying}
 use Rattle.flights.specs.declared.pricing.Stretch.{Stretch}
 
 -- a visit as a stretch of its own, with none after it
@@ -172,12 +172,12 @@ module _ {R : ℕ} {flight : List ℕ} {k : ℕ} (g : Visiting R flight k) where
 
 -- the visits from index k on are taken, and t is their first stretch
 pub record Taken (timed flight col : List ℕ) (all : Bool) (region k : ℕ) (t : Stretch) : Type 0 where
-  pub timing : Timing timed
+  pub timing : Paying timed
   pub visiting : Visiting (length col) flight k
   pub first : First (constraintsOf timed) col all region (drop k (visitsOf flight)) t
 
 -- the last visit is taken
-pub taken-last : {timed flight col : List ℕ} {all : Bool} {region : ℕ} {v : Stretch} → Timing timed → FlightLimits (length col) (visitsOf flight)
+pub taken-last : {timed flight col : List ℕ} {all : Bool} {region : ℕ} {v : Stretch} → Paying timed → FlightLimits (length col) (visitsOf flight)
     → v ≡ alone col all region (visitAt flight (length flight / visitLength - 1)) → Taken timed flight col all region (length flight / visitLength - 1) v
 taken-last {timed} {flight} {col} {all} {region} t l p =
     let g = visiting-last flight l in

@@ -17,8 +17,7 @@ use Rattle.meaning.specs.Plan.{Visit, Constraint, constraintLength, constraintA
 use Rattle.meaning.specs.Stretches.{stretches, dwellOf}
 use Rattle.meaning.specs.Kinds.{offDwell}
 use Rattle.meaning.specs.Prices.{price, flightPrice, flightsPrice}
-use Rattle.flights.specs.Flying.{Timing}
-use Rattle.flights.specs.Constraints.{constraint-every}
+use Rattle.kinds.specs.Constraints.{Paying, constraint-every}
 
 -- a constraint's gauge: for kind 5 how far the stretches of all flights are from the limit, for another what it has
 abbrev pub dwellGauge : List (List Visit) → List ℕ → Constraint → ℕ → ℕ
@@ -41,7 +40,7 @@ abbrev unit : ℕ → ℕ → List ℕ
 unit relation limit = 5 ∷ relation ∷ limit ∷ 1 ∷ []
 
 -- with the relation and the limit of another it keeps to the limits
-pub unit-timing : {constraints : List ℕ} {k : ℕ} → Gauging constraints k → Timing (unit (constraintAt constraints k .relation) (constraintAt constraints k .limit))
+pub unit-timing : {constraints : List ℕ} {k : ℕ} → Gauging constraints k → Paying (unit (constraintAt constraints k .relation) (constraintAt constraints k .limit))
 unfolding constraintsOf
 unit-timing {constraints} g =
     let l = constraint-every constraints (g .below) ConstraintLimits (g .each) in

@@ -1,7 +1,6 @@
--- The prices as loops add them up: over the constraints, and over the flights.
+-- The prices of the flights, as a loop adds them up.
 -- Assumes nothing.
-use Prim.Native.Nat.{ℕ, suc, _+_, _-_, _*_, _/_, _≤_, _<_}
-use native.Mathlib.Nat.{le-trans}
+use Prim.Native.Nat.{ℕ, suc, _+_, _-_, _*_, _≤_, _<_}
 use native.Mathlib.Numerals.{add-one}
 use native.Mathlib.Omega.{arith}
 use mathlib.Core.Path.{_≡_}
@@ -9,41 +8,12 @@ use mathlib.Core.List.{List, _∷_}
 use mathlib.Core.Bool.{true}
 use lib.ListN.{length, getD, take, drop, length-drop, drop-of-length-le}
 use lib.Seq.{drop-cons, drop-drop}
-use Rattle.lists.specs.SumLaws.{each-at-most}
-use Rattle.terms.specs.Distance.{distance}
-use Rattle.meaning.specs.Plan.{Constraint, constraintLength, constraintAt, constraintsOf, visitLength, visitsOf, flightsOf, ConstraintLimits, FlightLimits, mostVisits, mostDwell, mostConstraints, mostWeight}
+use Rattle.meaning.specs.Plan.{constraintsOf, visitLength, visitsOf, flightsOf, FlightLimits}
 use Rattle.meaning.specs.Flights.{length-flightsOf}
-use Rattle.meaning.specs.Bounds.{mostOff}
-use Rattle.meaning.specs.Prices.{price, flightPrice, flightsPrice, mostDwellTotal}
-use Rattle.meaning.specs.PriceLaws.{price-bound, flights-price-bound}
-use Rattle.flights.specs.Flying.{Flying, Timing}
-use Rattle.flights.specs.Constraints.{constraint-every}
-
--- ---- over the constraints
-
--- what a constraint adds to the price of a stretch of some seconds
-abbrev pub priceBy : ℕ → Constraint → ℕ
-priceBy seconds k = k .weight * distance (k .relation) seconds (k .limit)
-
-module _ {timed : List ℕ} (t : Timing timed) where
-  -- a stretch costs at most 16 * 1,000 times the most that it may be from a limit
-  pub timing-bound : {seconds : ℕ} → seconds ≤ mostVisits * mostDwell → price (constraintsOf timed) seconds ≤ mostConstraints * (mostWeight * mostOff)
-  timing-bound h = price-bound (constraintsOf timed) (t .few) (t .constraint) mostOff _ (omega arith)
-
-  -- each constraint keeps to its limits
-  pub timing-limits : {k : ℕ} → k < length timed / constraintLength → ConstraintLimits (constraintAt timed k)
-  timing-limits below = constraint-every timed below ConstraintLimits (t .constraint)
-
-  -- it adds no more than all
-  pub timing-part : {k seconds : ℕ} → k < length timed / constraintLength → seconds ≤ mostVisits * mostDwell
-      → priceBy seconds (constraintAt timed k) ≤ mostConstraints * (mostWeight * mostOff)
-  unfolding price
-  timing-part {k} {seconds} below h =
-      le-trans
-      (constraint-every timed below (λ c. priceBy seconds c ≤ price (constraintsOf timed) seconds) (each-at-most (constraintsOf timed) (priceBy seconds)))
-      (timing-bound h)
-
--- ---- over the flights
+use Rattle.meaning.specs.Prices.{flightPrice, flightsPrice, mostDwellTotal}
+use Rattle.meaning.specs.PriceLaws.{flights-price-bound}
+use Rattle.kinds.specs.Constraints.{Paying}
+use Rattle.flights.specs.Flying.{Flying}
 
 module _ {R n : ℕ} {counts visits : List ℕ} (f : Flying R (n ∷ counts) visits) where
   -- the first flight has its visits
@@ -68,7 +38,7 @@ spanAt counts i = visitLength * getD counts i 0
 
 -- t is the price of the flights before index i, whose visits end at index j: with the price of the rest it is the price of all
 pub record Priced (timed counts visits col : List ℕ) (i j t : ℕ) : Type 0 where
-  pub timing : Timing timed
+  pub timing : Paying timed
   pub all : Flying (length col) counts visits
   pub within : j ≤ length visits
   pub left : Flying (length col) (drop i counts) (drop j visits)
@@ -76,7 +46,7 @@ pub record Priced (timed counts visits col : List ℕ) (i j t : ℕ) : Type 0 wh
 
 module _ {timed counts visits col : List ℕ} where
   -- before the first flight there is nothing to pay
-  pub priced-start : Timing timed → Flying (length col) counts visits → Priced timed counts visits col 0 0 0
+  pub priced-start : Paying timed → Flying (length col) counts visits → Priced timed counts visits col 0 0 0
   priced-start t f = record { timing = t; all = f; within = omega arith; left = f; rest = omega arith }
 
   module _ {i j t : ℕ} (p : Priced timed counts visits col i j t) where

@@ -1,47 +1,19 @@
-// The price of a stretch by the constraints of kind 5, of a flight's stretches, and of all flights.
+// The price, by the constraints of kind 5, of a flight's stretches, and of all flights.
 ghost use mathlib.Core.Path.{_≡_};
-ghost use Prim.Native.Nat.{_+_, _*_, _/_, _≤_, _<_, _^_};
+ghost use Prim.Native.Nat.{_+_, _*_, _/_, _<_, _^_};
 ghost use mathlib.Core.Bool.{true, cond};
 ghost use lib.Dec.{eqb};
 ghost use lib.ListN.{length};
 ghost use Rattle.lists.specs.Sums.{In};
-ghost use Rattle.meaning.specs.Plan.{constraintLength, constraintAt, constraintsOf, visitAt, visitsOf, flightsOf, mostVisits, mostDwell, FlightLimits};
-ghost use Rattle.meaning.specs.Prices.{price, flightPrice, flightsPrice};
-ghost use Rattle.flights.specs.Flying.{Flying, Timing};
+ghost use Rattle.meaning.specs.Plan.{constraintsOf, visitAt, visitsOf, flightsOf, FlightLimits};
+ghost use Rattle.meaning.specs.Prices.{flightPrice, flightsPrice};
+ghost use Rattle.kinds.specs.Constraints.{Paying};
+ghost use Rattle.flights.specs.Flying.{Flying};
 ghost use Rattle.flights.specs.FirstStretch.{alone, joined, broken, priceFrom, withVisit, Fits, Visiting, Taken};
 ghost use Rattle.meaning.specs.Moves.{recolour};
 ghost use Rattle.flights.specs.Both.{aloneBoth, Ready, alike, walked, Differ};
-ghost use Rattle.flights.specs.Priced.{priceBy};
-use terms::limits::CONSTRAINT_LENGTH;
+use kinds::price;
 use terms::limits::VISIT_LENGTH;
-use terms::relation_of;
-
-// The distance of a stretch of some seconds from the limit of constraint k, from 0, times the weight.
-fn price_by(timed: &[u64], k: usize, seconds: u64) -> u64
-    requires { ⌜ Timing (now timed) ⌝ }
-    requires { ⌜ seconds ≤ mostVisits * mostDwell ⌝ }
-    requires { ⌜ k < length (now timed) / constraintLength ⌝ }
-    ensures { λ r. ⌜ r ≡ priceBy seconds (constraintAt (now (timed .entry)) k) ⌝ }
-{
-    let at = CONSTRAINT_LENGTH * k;
-    timed[at + 3] * relation_of(timed[at + 1]).distance(seconds, timed[at + 2])
-}
-
-// The price of a stretch of some seconds.
-fn price(timed: &[u64], seconds: u64) -> u64
-    requires { ⌜ Timing (now timed) ⌝ }
-    requires { ⌜ seconds ≤ mostVisits * mostDwell ⌝ }
-    ensures { λ r. ⌜ r ≡ price (constraintsOf (now (timed .entry))) seconds ⌝ }
-{
-    let n = timed.len() / CONSTRAINT_LENGTH;
-    let mut sum = 0;
-    let mut k = 0;
-    while k < n {
-        sum += price_by(timed, k, seconds);
-        k += 1;
-    }
-    sum
-}
 
 // The first stretch of some visits: its sector, its seconds and whether its price counts; and the price of the stretches after it.
 struct Stretch {
@@ -71,7 +43,7 @@ fn stretch_of(flight: &[u64], colouring: &[u64], all: bool, region: u64, k: usiz
 
 // The price of a stretch, where it counts, and of those after it.
 fn price_from(timed: &[u64], first: Stretch) -> u64
-    requires { ⌜ Timing (now timed) ⌝ }
+    requires { ⌜ Paying (now timed) ⌝ }
     requires { ⌜ Fits first ⌝ }
     ensures { λ r. ⌜ r ≡ priceFrom (constraintsOf (now (timed .entry))) first ⌝ }
 {
@@ -109,7 +81,7 @@ fn broken(visit: Stretch, after: u64) -> Stretch
 
 // The first stretch with a visit in front: one with it where both are in one sector, else a stretch of its own.
 fn add_visit(timed: &[u64], visit: Stretch, first: Stretch) -> Stretch
-    requires { ⌜ Timing (now timed) ⌝ }
+    requires { ⌜ Paying (now timed) ⌝ }
     requires { ⌜ Fits visit × Fits first ⌝ }
     ensures { λ r. ⌜ r ≡ withVisit (constraintsOf (now (timed .entry))) visit first ⌝ }
 {
@@ -139,7 +111,7 @@ fn with_visit(
 
 // The price of a flight: of all its stretches, or only of those that visit the region.
 pub fn flight_price(timed: &[u64], flight: &[u64], colouring: &[u64], all: bool, region: u64) -> u64
-    requires { ⌜ Timing (now timed) ⌝ }
+    requires { ⌜ Paying (now timed) ⌝ }
     requires { ⌜ FlightLimits (length (now colouring)) (visitsOf (now flight)) ⌝ }
     ensures { λ r. ⌜ r ≡ flightPrice (constraintsOf (now (timed .entry))) (now (colouring .entry)) all region (visitsOf (now (flight .entry))) ⌝ }
 {
@@ -214,7 +186,7 @@ fn alike(stretches: Stretches) -> bool
 // Both first stretches with the visit in front. Where neither it nor they differ, a stretch that ends costs the same before and after,
 // and is not priced.
 fn add_both(timed: &[u64], visit: Stretches, firsts: Stretches) -> Stretches
-    requires { ⌜ Timing (now timed) ⌝ }
+    requires { ⌜ Paying (now timed) ⌝ }
     requires { ⌜ Ready visit × Ready firsts ⌝ }
     ensures { λ r. ⌜ r ≡ walked (constraintsOf (now (timed .entry))) visit firsts ⌝ }
 {
@@ -259,7 +231,7 @@ pub fn flight_prices(
     region: u64,
     sector: u64,
 ) -> Prices
-    requires { ⌜ Timing (now timed) ⌝ }
+    requires { ⌜ Paying (now timed) ⌝ }
     requires { ⌜ FlightLimits (length (now colouring)) (visitsOf (now flight)) ⌝ }
     requires { ⌜ In (length (now colouring)) region ⌝ }
     ensures { λ r. ⌜ Differ (flightPrice (constraintsOf (now (timed .entry))) (now (colouring .entry)) true region (visitsOf (now (flight .entry)))) (flightPrice (constraintsOf (now (timed .entry))) (recolour (now (colouring .entry)) region sector) true region (visitsOf (now (flight .entry)))) r ⌝ }
@@ -278,7 +250,7 @@ pub fn flight_prices(
 
 // The price of all flights.
 pub fn price_all(timed: &[u64], counts: &[u64], visits: &[u64], colouring: &[u64]) -> u64
-    requires { ⌜ Timing (now timed) ⌝ }
+    requires { ⌜ Paying (now timed) ⌝ }
     requires { ⌜ Flying (length (now colouring)) (now counts) (now visits) ⌝ }
     ensures { λ r. ⌜ r ≡ flightsPrice (constraintsOf (now (timed .entry))) (now (colouring .entry)) (flightsOf (now (counts .entry)) (now (visits .entry))) ⌝ }
 {

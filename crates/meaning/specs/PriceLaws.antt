@@ -4,7 +4,7 @@ use Prim.Native.Nat.{ℕ, _+_, _-_, _*_, _≤_}
 use native.Mathlib.Nat.{mul-zero, mul-le-mul, le-trans}
 use native.Mathlib.Omega.{arith}
 use mathlib.Core.Path.{_≡_, refl, sym, _∙_}
-use mathlib.Core.List.{List, [], _∷_}
+use mathlib.Core.List.{List, []}
 use mathlib.Core.Bool.{Bool, true, false, cond, _||_}
 use borrow.Author.Tests.{eqb-true}
 use lib.Dec.{eqb}
@@ -16,7 +16,7 @@ use Rattle.lists.specs.Tests.{cond-le, cond-same}
 use Rattle.terms.specs.Plan.{within}
 use Rattle.terms.specs.Distance.{distance}
 use Rattle.terms.specs.DistanceLaws.{distance-bound}
-use Rattle.meaning.specs.Plan.{Visit, Constraint, Plan, sectors, mostSectors, mostFlights, mostVisits, mostDwell, mostConstraints, mostLimit, mostWeight, FlightLimits, ConstraintLimits, Limits}
+use Rattle.meaning.specs.Plan.{Visit, Constraint, Plan, sectors, mostSectors, mostFlights, mostVisits, mostConstraints, mostLimit, mostWeight, FlightLimits, ConstraintLimits, Limits}
 use Rattle.meaning.specs.Stretches.{stretches, dwellOf, visits}
 use Rattle.meaning.specs.StretchLaws.{stretches-elsewhere, stretches-recolour}
 use Rattle.meaning.specs.Kinds.{ncc, load, loads, offBalance, bounded, overStretches, offDwell, dwelling, violation, total, borderOf, dwellingOf, partOf, regionViolation}
@@ -201,6 +201,11 @@ module _ (ks : List Constraint) (few : length ks ≤ mostConstraints) (each : Ev
   price-bound B x h =
       few-bound mostConstraints (mostWeight * B) ks _ few
       (every-turn (λ k c. mul-le-mul {m₂ = B} (c .weight .high) (omega (arith, c .limit, distance-bound (k .relation) x (k .limit)))) ks each)
+
+  -- those of a kind weigh at most 16 * 1,000
+  pub weight-bound : (kind : ℕ) → weightOf kind ks ≤ mostConstraints * mostWeight
+  unfolding weightOf
+  weight-bound kind = few-bound mostConstraints mostWeight ks _ few (every-turn (λ k c. cond-le (eqb (k .kind) kind) (c .weight .high) (omega arith)) ks each)
 
   -- a flight has at most 32 stretches
   pub flight-price-bound : {R : ℕ} (col : List ℕ) (all : Bool) (v : ℕ) {flight : List Visit} → FlightLimits R flight

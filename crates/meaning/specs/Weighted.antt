@@ -3,9 +3,9 @@
 use Prim.Native.Nat.{ℕ, zero, suc, _+_, _*_, _≤_}
 use native.Mathlib.Nat.{zero-mul, mul-zero, mul-add, add-mul}
 use native.Mathlib.Omega.{arith}
-use mathlib.Core.Path.{_≡_, refl, sym, _∙_}
+use mathlib.Core.Path.{_≡_, refl, _∙_}
 use mathlib.Core.List.{List, [], _∷_}
-use mathlib.Core.Bool.{Bool, true, false, cond, _&&_, false≢true, and-eq-true-iff}
+use mathlib.Core.Bool.{Bool, true, false, cond, false≢true, and-eq-true-iff}
 use borrow.Author.Tests.{leb-true, le-leb, lt-leb, eqb-true, eq-eqb, ne-eqb}
 use lib.Dec.{eqb, leb}
 use lib.ListN.{length}
@@ -52,7 +52,7 @@ module _ (low high : ℕ) where
       go false e = omega (arith, mul-zero (k .weight))
 
 -- the kinds n to n are the kind n
-pub within-one : (n x : ℕ) → within n x n ≡ eqb x n
+within-one : (n x : ℕ) → within n x n ≡ eqb x n
 within-one n x =
     test-same _ _
     (λ h. let t = and-eq-true-iff (leb n x) (leb x n) .0 h in eq-eqb x n (omega (arith, leb-true n x (t .0), leb-true x n (t .1))))

@@ -15,7 +15,8 @@ use Rattle.lists.specs.Sums.{In, at, Every}
 use Rattle.lists.specs.SumLaws.{every-turn}
 use Rattle.meaning.specs.Plan.{Edge}
 use Rattle.neighbours.specs.Table.{when, sides, near}
-use Rattle.flights.specs.Flying.{Flying, Timing}
+use Rattle.kinds.specs.Constraints.{Paying}
+use Rattle.flights.specs.Flying.{Flying}
 use Rattle.visitors.specs.Flat.{noEdge}
 use Rattle.visitors.specs.Hops.{hopsOf, hopsAt}
 use Rattle.visitors.specs.HopLaws.{Numbered, HopLimits, each-hop}
@@ -50,7 +51,7 @@ every-getD P d (x ∷ xs) (suc k) e h = every-getD P d xs k (e .1) (le-of-suc-le
 
 -- a region, and the rows of flights and constraints within the limits
 pub record Row (R : ℕ) (timed counts visits starts numbers firsts : List ℕ) (v : ℕ) : Type 0 where
-  pub timing : Timing timed
+  pub timing : Paying timed
   pub flying : Flying R counts visits
   pub visitors : Visitors R counts visits starts numbers firsts
   pub region : In R v

@@ -8,7 +8,8 @@ use lib.ListN.{length, take}
 use Rattle.meaning.specs.Plan.{edgeLength, edgesOf}
 use Rattle.meaning.specs.Paths.{Ends}
 use Rattle.neighbours.specs.Table.{Table}
-use Rattle.flights.specs.Flying.{Flying, Timing}
+use Rattle.kinds.specs.Constraints.{Paying}
+use Rattle.flights.specs.Flying.{Flying}
 use Rattle.visitors.specs.Flat.{length-flat, edges-flat}
 use Rattle.visitors.specs.Hops.{hopsOf}
 use Rattle.visitors.specs.HopLaws.{length-hops, hops-ends}
@@ -20,7 +21,7 @@ pub record Visitors (R : ℕ) (counts visits starts numbers firsts : List ℕ) :
 
 -- constraints and flights within the limits and, where there are constraints, the rows
 pub record Pricing (R : ℕ) (timed counts visits starts numbers firsts : List ℕ) : Type 0 where
-  pub timing : Timing timed
+  pub timing : Paying timed
   pub flying : Flying R counts visits
   pub table : 0 < length timed → Visitors R counts visits starts numbers firsts
 

@@ -7,7 +7,8 @@ ghost use lib.ListN.{length};
 ghost use Rattle.lists.specs.Sums.{In};
 ghost use Rattle.meaning.specs.Plan.{edgeLength, visitLength, visitsOf, flightsOf, constraintsOf, mostRegions};
 ghost use Rattle.meaning.specs.Prices.{visitorsPrice};
-ghost use Rattle.flights.specs.Flying.{Flying, Timing};
+ghost use Rattle.kinds.specs.Constraints.{Paying};
+ghost use Rattle.flights.specs.Flying.{Flying};
 ghost use Rattle.visitors.specs.HopLaws.{Numbered};
 ghost use Rattle.visitors.specs.Laid.{layFlight, Room, Laid};
 ghost use Rattle.visitors.specs.Visitors.{Visitors, Pricing};
@@ -90,7 +91,7 @@ fn price_cell(
     first: u64,
     last: u64,
 ) -> u64
-    requires { ⌜ Timing (now timed) ⌝ }
+    requires { ⌜ Paying (now timed) ⌝ }
     requires { ⌜ Numbered (length (now colouring)) (now counts) (now visits) number first ⌝ }
     ensures { λ r. ⌜ r ≡ cond (eqb number last) 0 (numberPrice (now (timed .entry)) (now (counts .entry)) (now (visits .entry)) (now (colouring .entry)) false region number first) ⌝ }
 {
@@ -157,7 +158,7 @@ fn price_cell_both(
     first: u64,
     last: u64,
 ) -> Prices
-    requires { ⌜ Timing (now timed) ⌝ }
+    requires { ⌜ Paying (now timed) ⌝ }
     requires { ⌜ Numbered (length (now colouring)) (now counts) (now visits) number first ⌝ }
     requires { ⌜ In (length (now colouring)) region ⌝ }
     ensures { λ r. ⌜ CellsDiffer (now (timed .entry)) (now (counts .entry)) (now (visits .entry)) (now (colouring .entry)) region sector number first last r ⌝ }

@@ -3,7 +3,7 @@ use native.Mathlib.Omega.{arith}
 use mathlib.Core.Path.{refl, _∙_}
 use borrow.Author.Needs.{needs}
 use lib.ListN.{length-set}
-use Rattle.flights.specs.Constraints.{length-constraints}
+use Rattle.kinds.specs.Constraints.{length-constraints}
 use Rattle.turns.specs.StateLaws.{setting-queue, opened-ready}
 use Rattle.call.specs.Promised.{flown-flying, opened-small, ran-by}
 use Rattle.call.proofs.judge_all.Statement.{statement}

@@ -29,14 +29,14 @@ gather-requires c κs = let v = c .before .before .before .before .before .befor
 sum-of-requires : tie.Need-sum-of-requires
 sum-of-requires c κs = omega (arith, whole-small _ (c .before .before .before .before .before .before .before .before .before .before .before .before .before .before .before .before .before .pre .plan .limits))
 
-slice-aggregate-pick-timed : tie.Need-slice-aggregate-pick-timed
-slice-aggregate-pick-timed c = search needs
+slice-aggregate-pick : tie.Need-slice-aggregate-pick
+slice-aggregate-pick c = search needs
 
-pick-timed-requires : tie.Need-pick-timed-requires
-pick-timed-requires c κs = timed-fit (c .before .before .before .before .before .before .before .before .before .before .before .before .before .before .before .before .before .before .before .pre)
+pick-requires : tie.Need-pick-requires
+pick-requires c κs = timed-fit (c .before .before .before .before .before .before .before .before .before .before .before .before .before .before .before .before .before .before .before .pre)
 
 mul-picked : tie.Need-mul-picked
-mul-picked c = omega (arith, c .before .pick-timed .ensures .0, c .before .pick-timed .kept .1 .0)
+mul-picked c = omega (arith, c .before .pick .ensures .0, c .before .pick .kept .1 .1 .1 .0)
 
 array-share-prefix-start : tie.Need-array-share-prefix-start
 array-share-prefix-start c = starts-room (c .before .before .before .before .before .before .before .before .before .before .before .before .before .before .before .before .before .before .before .before .before .before .pre) (c .before .before .before .before .before .before .before .before .gather .last .1 .0) (c .before .before .before .before .before .before .before .before .gather .kept .1 .0)
@@ -51,10 +51,10 @@ slice-aggregate-judge-all-3 : tie.Need-slice-aggregate-judge-all-3
 slice-aggregate-judge-all-3 c = search needs
 
 array-share-prefix-timed : tie.Need-array-share-prefix-timed
-array-share-prefix-timed c = c .before .before .before .before .before .pick-timed .ensures .0
+array-share-prefix-timed c = c .before .before .before .before .before .pick .ensures .0
 
 slice-aggregate-judge-all-4 : tie.Need-slice-aggregate-judge-all-4
-slice-aggregate-judge-all-4 c = sym (length-take-le _ (c .before .before .before .before .before .before .pick-timed .last .1 .0) (c .before .before .before .before .before .before .pick-timed .ensures .0))
+slice-aggregate-judge-all-4 c = sym (length-take-le _ (c .before .before .before .before .before .before .pick .last .1 .1 .1 .0) (c .before .before .before .before .before .before .pick .ensures .0))
 
 slice-aggregate-judge-all-5 : tie.Need-slice-aggregate-judge-all-5
 slice-aggregate-judge-all-5 c = search needs
@@ -78,8 +78,8 @@ judge-all-requires : tie.Need-judge-all-requires
 judge-all-requires c κs =
     let v = c .before .before .before .before .before .before .before .before .before .before .before .before .before .before .before .before .before .before .before .before .before .before .before .before .before .before .before .before .before .before .before .before .before .before .before .pre in
     let g = c .before .before .before .before .before .before .before .before .before .before .before .before .before .before .before .before .before .before .before .before .before .gather in
-    let p = c .before .before .before .before .before .before .before .before .before .before .before .before .before .before .before .pick-timed in
-    let none = length-take-le _ (p .last .1 .0) (p .ensures .0) ∙ c .before .before .before .before .before .before .before .before .before .before .before .before .before .if1 .taken in
+    let p = c .before .before .before .before .before .before .before .before .before .before .before .before .before .before .before .pick in
+    let none = length-take-le _ (p .last .1 .1 .1 .0) (p .ensures .0) ∙ c .before .before .before .before .before .before .before .before .before .before .before .before .before .if1 .taken in
     rw (v .plan .limits .workloads) (v, (gathered-setting v (g .last .1 .0) (g .kept .1 .0) (c .before .before .before .before .before .before .before .before .before .before .before .before .before .before .before .before .before .sum-of .ensures) (g .ensures), (lent-opening v (c .before .before .before .before .before .before .before .before .before .before .before .before .before .before .before .before .before .before .before .before .before .before .before .before .before .before .before .before .before .before .before .before .before .before .before .args .work .now) refl, empty-flown v none (picked-priced v (p .ensures .1)))))
 
 same-length : tie.Need-same-length
@@ -110,10 +110,10 @@ slice-aggregate-run-timed-3 : tie.Need-slice-aggregate-run-timed-3
 slice-aggregate-run-timed-3 c = search needs
 
 array-share-prefix-timed-2 : tie.Need-array-share-prefix-timed-2
-array-share-prefix-timed-2 c = c .before .before .before .before .before .pick-timed .ensures .0
+array-share-prefix-timed-2 c = c .before .before .before .before .before .pick .ensures .0
 
 slice-aggregate-run-timed-4 : tie.Need-slice-aggregate-run-timed-4
-slice-aggregate-run-timed-4 c = sym (length-take-le _ (c .before .before .before .before .before .before .pick-timed .last .1 .0) (c .before .before .before .before .before .before .pick-timed .ensures .0))
+slice-aggregate-run-timed-4 c = sym (length-take-le _ (c .before .before .before .before .before .before .pick .last .1 .1 .1 .0) (c .before .before .before .before .before .before .pick .ensures .0))
 
 array-borrow-prefix-gauges-2 : tie.Need-array-borrow-prefix-gauges-2
 array-borrow-prefix-gauges-2 c = gauges-fit (c .before .before .before .before .before .before .before .before .before .before .before .before .before .before .before .before .before .before .before .before .before .before .before .before .before .before .before .before .before .before .pre)
@@ -128,7 +128,7 @@ run-timed-requires : tie.Need-run-timed-requires
 run-timed-requires c κs =
     let v = c .before .before .before .before .before .before .before .before .before .before .before .before .before .before .before .before .before .before .before .before .before .before .before .before .before .before .before .before .before .before .before .before .pre in
     let g = c .before .before .before .before .before .before .before .before .before .before .before .before .before .before .before .before .before .before .gather in
-    rw (v .plan .limits .workloads) (v, (gathered-setting v (g .last .1 .0) (g .kept .1 .0) (c .before .before .before .before .before .before .before .before .before .before .before .before .before .before .sum-of .ensures) (g .ensures), (lent-opening v (c .before .before .before .before .before .before .before .before .before .before .before .before .before .before .before .before .before .before .before .before .before .before .before .before .before .before .before .before .before .before .before .before .args .work .now) refl, picked-priced v (c .before .before .before .before .before .before .before .before .before .before .before .before .pick-timed .ensures .1))))
+    rw (v .plan .limits .workloads) (v, (gathered-setting v (g .last .1 .0) (g .kept .1 .0) (c .before .before .before .before .before .before .before .before .before .before .before .before .before .before .sum-of .ensures) (g .ensures), (lent-opening v (c .before .before .before .before .before .before .before .before .before .before .before .before .before .before .before .before .before .before .before .before .before .before .before .before .before .before .before .before .before .before .before .before .args .work .now) refl, picked-priced v (c .before .before .before .before .before .before .before .before .before .before .before .before .pick .ensures .1))))
 
 same-length-5 : tie.Need-same-length-5
 same-length-5 c = search needs
@@ -156,8 +156,8 @@ run-spec =
     slice-aggregate-gather-3
     gather-requires
     sum-of-requires
-    slice-aggregate-pick-timed
-    pick-timed-requires
+    slice-aggregate-pick
+    pick-requires
     mul-picked
     array-share-prefix-start
     slice-aggregate-judge-all

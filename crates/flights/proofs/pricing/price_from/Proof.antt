@@ -1,7 +1,7 @@
 -- A stretch that counts adds its price, and another adds nothing.
 use native.Mathlib.Omega.{arith}
 use borrow.Author.Needs.{needs}
-use Rattle.flights.specs.Priced.{timing-bound}
+use Rattle.kinds.specs.Paid.{paying-bound}
 use Rattle.flights.proofs.pricing.price_from.Statement.{statement}
 use Rattle.flights.proofs.pricing.price_from.Tie as tie
 
@@ -10,8 +10,8 @@ price-requires c κs = search needs
 
 add-result : tie.Need-add-result
 add-result c =
-    let p = c .before .before .before .before .pre in
-    omega (arith, c .before .price .ensures, timing-bound (p .0) (p .1 .0))
+    let s = c .before .before .before .before in
+    omega (arith, c .before .price .ensures, paying-bound (s .pre .0) (s .args .first .seconds) (omega (arith, s .pre .1 .0)))
 
 returns : tie.Need-returns
 returns c = rw (c .before .before .if1 .taken, c .before .price .ensures)

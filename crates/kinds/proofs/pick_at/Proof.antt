@@ -1,17 +1,21 @@
--- Where the kind is 5 the four numbers of the constraint come after those picked, and else nothing does.
+-- Where the kind is one of low to high the four numbers of the constraint come after those picked, and else nothing does.
+use mathlib.Core.Path.{sym, _∙_}
 use borrow.Author.Needs.{needs}
-use Rattle.flights.specs.Picked.{picks-own, picks-other}
-use Rattle.flights.proofs.picking.pick_at.Statement.{statement}
-use Rattle.flights.proofs.picking.pick_at.Tie as tie
+use Rattle.kinds.specs.Picked.{picks-own, picks-other}
+use Rattle.kinds.proofs.pick_at.Statement.{statement}
+use Rattle.kinds.proofs.pick_at.Tie as tie
 
 mul-from : tie.Need-mul-from
 mul-from c = search needs
 
-mul-if1 : tie.Need-mul-if1
-mul-if1 c = search needs
+mul-in-limits : tie.Need-mul-in-limits
+mul-in-limits c = search needs
 
-shared-slice-read-if1 : tie.Need-shared-slice-read-if1
-shared-slice-read-if1 c = search needs
+shared-slice-read-in-limits : tie.Need-shared-slice-read-in-limits
+shared-slice-read-in-limits c = search needs
+
+in-limits-requires : tie.Need-in-limits-requires
+in-limits-requires c κs = search needs
 
 add-end : tie.Need-add-end
 add-end c = search needs
@@ -53,18 +57,21 @@ same-length : tie.Need-same-length
 same-length c = search needs
 
 returns : tie.Need-returns
-returns c = picks-own (c .before .before .before .before .before .before .before .before .before .pre) _ _ _ (c .before .before .copy .ensures) (c .before .before .before .before .before .if1 .taken)
+returns c =
+    let t = c .before .before .before .before .before in
+    picks-own (t .before .before .before .before .before .pre) _ _ _ (c .before .before .copy .ensures) (sym (t .before .in-limits .ensures) ∙ t .if1 .taken)
 
 returns-2 : tie.Need-returns-2
-returns-2 c = picks-other (c .before .before .before .before .pre) (c .if1 .left)
+returns-2 c = picks-other (c .before .before .before .before .before .pre) (sym (c .before .in-limits .ensures) ∙ c .if1 .left)
 
 pub pick-at-spec : {M : Type 1} → statement M
 pick-at-spec =
     tie.close
     (tie.spec
     mul-from
-    mul-if1
-    shared-slice-read-if1
+    mul-in-limits
+    shared-slice-read-in-limits
+    in-limits-requires
     add-end
     mul-to
     mul-copy

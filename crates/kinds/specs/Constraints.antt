@@ -1,4 +1,4 @@
--- The constraints of a flat list, one by one.
+-- The constraints of a flat list, one by one, and few of them within their limits.
 -- Assumes nothing.
 use Prim.Native.Nat.{ℕ, suc, _+_, _*_, _/_, _≤_, _<_}
 use native.Mathlib.Nat.{add-zero}
@@ -9,7 +9,12 @@ use lib.ListN.{length, getD, take, drop}
 use lib.Seq.{length-take-le, getD-take, ext-getD}
 use Rattle.lists.specs.Sums.{Every}
 use Rattle.lists.specs.ListLaws.{length-listOf, drop-listOf, listOf-every, getD-listOf}
-use Rattle.meaning.specs.Plan.{Constraint, constraintLength, constraintAt, constraintsOf}
+use Rattle.meaning.specs.Plan.{Constraint, constraintLength, constraintAt, constraintsOf, mostConstraints, ConstraintLimits}
+
+-- the flat list holds few constraints, each within its limits
+pub record Paying (constraints : List ℕ) : Type 0 where
+  pub few : length (constraintsOf constraints) ≤ mostConstraints
+  pub constraint : Every ConstraintLimits (constraintsOf constraints)
 
 -- how many there are
 pub length-constraints : (xs : List ℕ) → length (constraintsOf xs) ≡ length xs / constraintLength

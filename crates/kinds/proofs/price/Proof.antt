@@ -6,16 +6,16 @@ use lib.ListN.{length}
 use Rattle.lists.specs.Loops.{Summed, summed-start, summed-room, summed-turn, summed-end}
 use Rattle.meaning.specs.Plan.{constraintLength, constraintsOf}
 use Rattle.meaning.specs.Prices.{price}
-use Rattle.flights.specs.Constraints.{length-constraints, constraint-next}
-use Rattle.flights.specs.Priced.{priceBy, timing-bound}
-use Rattle.flights.proofs.pricing.price.Statement.{statement}
-use Rattle.flights.proofs.pricing.price.Tie as tie
+use Rattle.kinds.specs.Constraints.{length-constraints, constraint-next}
+use Rattle.kinds.specs.Paid.{priceBy, paying-bound}
+use Rattle.kinds.proofs.price.Statement.{statement}
+use Rattle.kinds.proofs.price.Tie as tie
 
 abbrev Inv-loop : tie.InvT-loop
-Inv-loop timed seconds n sum₀ k₀ sum k = Summed (constraintsOf timed) (priceBy seconds) k sum
+Inv-loop constraints x n sum₀ k₀ sum k = Summed (constraintsOf constraints) (priceBy x) k sum
 
 abbrev μ-loop : tie.MeasureT-loop
-μ-loop timed seconds n sum₀ k₀ sum k = length timed / constraintLength - k
+μ-loop constraints x n sum₀ k₀ sum k = length constraints / constraintLength - k
 
 loop-holds : tie.Need-loop-holds Inv-loop μ-loop
 loop-holds c = summed-start
@@ -31,7 +31,7 @@ add-sum c =
     omega (
       arith,
       summed-room (l .inv) (constraint-next _ (c .before .loop-test .taken)) (c .price-by .ensures),
-      timing-bound (p .0) (p .1),
+      paying-bound (p .0) _ (p .1),
     )
 
 add-k : tie.Need-add-k Inv-loop μ-loop

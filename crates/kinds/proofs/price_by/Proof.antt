@@ -1,9 +1,9 @@
 -- The numbers read are those of the constraint at its place.
 use native.Mathlib.Omega.{arith}
 use borrow.Author.Needs.{needs}
-use Rattle.flights.specs.Priced.{timing-limits, timing-part}
-use Rattle.flights.proofs.pricing.price_by.Statement.{statement}
-use Rattle.flights.proofs.pricing.price_by.Tie as tie
+use Rattle.kinds.specs.Paid.{paying-limits, paying-part}
+use Rattle.kinds.proofs.price_by.Statement.{statement}
+use Rattle.kinds.proofs.price_by.Tie as tie
 
 mul-at : tie.Need-mul-at
 mul-at c = search needs
@@ -27,7 +27,7 @@ shared-slice-read-relation-of : tie.Need-shared-slice-read-relation-of
 shared-slice-read-relation-of c = search needs
 
 relation-of-requires : tie.Need-relation-of-requires
-relation-of-requires c κs = let p = c .before .before .before .pre in timing-limits (p .0) (p .1 .1) .relation
+relation-of-requires c κs = let p = c .before .before .before .pre in paying-limits (p .0) (p .1 .1) .relation
 
 add-distance : tie.Need-add-distance
 add-distance c = search needs
@@ -39,12 +39,12 @@ shared-slice-read-distance : tie.Need-shared-slice-read-distance
 shared-slice-read-distance c = search needs
 
 distance-requires : tie.Need-distance-requires
-distance-requires c κs = let p = c .before .before .before .before .before .pre in omega (arith, timing-limits (p .0) (p .1 .1) .limit)
+distance-requires c κs = let p = c .before .before .before .before .before .pre in omega (arith, paying-limits (p .0) (p .1 .1) .limit)
 
 mul-result-2 : tie.Need-mul-result-2
 mul-result-2 c =
     let p = c .before .before .before .before .before .before .pre in
-    record { fits = rw (c .distance .ensures, c .before .before .relation-of .ensures) (omega (arith, timing-part (p .0) (p .1 .1) (p .1 .0))) }
+    record { fits = rw (c .distance .ensures, c .before .before .relation-of .ensures) (omega (arith, paying-part (p .0) (p .1 .1) (p .1 .0))) }
 
 returns : tie.Need-returns
 returns c = rw (c .distance .ensures, c .before .before .relation-of .ensures)

@@ -1,0 +1,3 @@
+pub mod Constraints
+pub mod Picked
+pub mod Paid
