@@ -1,23 +1,25 @@
 -- From the tallies of a colouring come its figures and its gauges, and from these its violations, its total and its verdicts.
 -- Assumes nothing.
-use Prim.Native.Nat.{ℕ, _+_, _*_, _<_}
+use Prim.Native.Nat.{ℕ, _+_, _<_}
 use native.Mathlib.Omega.{arith}
 use mathlib.Core.Path.{_≡_, refl, sym, ap, _∙_}
 use mathlib.Core.List.{List, [], _∷_, map, map-map}
-use mathlib.Core.Bool.{Bool, true, false, cond}
-use borrow.Author.Tests.{eqb-true}
-use lib.Dec.{eqb}
+use mathlib.Core.Bool.{Bool, true, false, cond, _&&_}
+use borrow.Author.Tests.{eqb-true, ne-eqb, leb-true}
+use lib.Dec.{eqb, leb}
 use lib.ListN.{length, getD}
 use Rattle.lists.specs.Sums.{from, listOf, sum, Every}
-use Rattle.lists.specs.SumLaws.{sum-ext, sum-map, every-turn, every-from}
+use Rattle.lists.specs.SumLaws.{every-from}
 use Rattle.lists.specs.ListLaws.{map-ext, getD-listOf}
 use Rattle.lists.specs.Places.{sum-at}
-use Rattle.meaning.specs.Plan.{Constraint, Plan, Coloured, constraintAt, constraintsOf}
-use Rattle.meaning.specs.Kinds.{whole, crosses, areaOf, outsideArea, border, counts, loads, deviation, connected, bounded, byKind, violation, holds, total}
+use Rattle.terms.specs.Plan.{within}
+use Rattle.meaning.specs.Plan.{Constraint, Plan, Coloured, sectors, constraintAt, constraintsOf}
+use Rattle.meaning.specs.Kinds.{load, whole, crosses, areaOf, outsideArea, border, counts, loads, deviation, connected, bounded, byKind, violation, holds, total}
 use Rattle.meaning.specs.Components.{ncc-sum}
 use Rattle.meaning.specs.Moves.{verdict, verdictsOf, verdicts}
-use Rattle.meaning.specs.Prices.{dwellTotal}
-use Rattle.meaning.specs.PriceLaws.{total-halves}
+use Rattle.meaning.specs.Prices.{shared, limited, price, sectorPrice, prices, limitTotal, dwellTotal}
+use Rattle.meaning.specs.Weighted.{kinds-sum, weighted-all}
+use Rattle.meaning.specs.PriceLaws.{total-parts}
 use Rattle.judge.specs.Figures.{figuresOf, figuresBy, gaugeOf, gauges, verdictGaugeOf, verdictGauges, gaugeBy, gaugesBy, constraintCount, violationBy, violationAt, totalBy, judged, verdictsBy}
 
 -- the places of the constraints in the flat list, from 0
@@ -48,25 +50,27 @@ module _ (P : Plan) where
     border-by l = ap (λ n. areaOf (P .edges) (crosses col) + n) (sum-at (P .R) (P .outside) (λ a. a) l)
 
     -- the tallies make the figures
-    pub figures-by : Coloured P col → figuresBy (P .S) (whole P) (counts P col) (loads P col) (border P col) (dwellTotal P col) ≡ figuresOf P col
+    pub figures-by : Coloured P col → figuresBy (P .S) (whole P) (counts P col) (loads P col) (border P col) (limitTotal P col) (dwellTotal P col) ≡ figuresOf P col
     unfolding figuresBy figuresOf deviation
     figures-by k = rw (ncc-sum P col k)
 
-    -- the violation of a constraint, but for kind 5
-    abbrev keptViolation : Constraint → ℕ
-    keptViolation k = cond (eqb (k .kind) 5) 0 (violation P col k)
+    -- the workloads of the sectors make what each of them pays
+    pub prices-by : map (price (limited (P .constraints))) (loads P col) ≡ prices P col
+    unfolding prices loads sectorPrice
+    prices-by = map-map (price (limited (P .constraints))) (load P col) (sectors P)
 
     module _ (k : Constraint) where
-      -- the figures and its gauge make the violation of a constraint, but for kind 5
-      kept-violation : violationBy (figuresOf P col) (gaugeOf P col k) k ≡ keptViolation k
-      unfolding violationBy figuresOf gaugeOf violation connected byKind
-      kept-violation = go (eqb (k .kind) 5) refl
+      -- the figures alone make the violation of a constraint of kinds 1 to 3
+      shared-violation : cond (within 1 (k .kind) 3) (violationBy (figuresOf P col) 0 k) 0 ≡ cond (within 1 (k .kind) 3) (violation P col k) 0
+      unfolding violationBy figuresOf violation connected byKind
+      shared-violation = go (leb 1 (k .kind)) (leb (k .kind) 3) refl
         where
-          go : (t : Bool) → eqb (k .kind) 5 ≡ t → violationBy (figuresOf P col) (gaugeOf P col k) k ≡ cond t 0 (violation P col k)
-          go true e = rw (eqb-true (k .kind) 5 e)
-          go false e = rw (e, cond-twice (eqb (k .kind) 4) (bounded P col k))
+          go : (s t : Bool) → leb (k .kind) 3 ≡ t → cond (s && t) (violationBy (figuresOf P col) 0 k) 0 ≡ cond (s && t) (violation P col k) 0
+          go true true e = let high = leb-true (k .kind) 3 e in rw (ne-eqb (k .kind) 4 (omega arith), ne-eqb (k .kind) 5 (omega arith))
+          go true false e = refl
+          go false t e = refl
 
-      -- with the gauge that its verdict asks for they make it of any kind
+      -- with the gauge that its verdict asks for they make the violation of a constraint of any kind
       verdict-violation : violationBy (figuresOf P col) (verdictGaugeOf P col k) k ≡ violation P col k
       unfolding violationBy figuresOf gaugeOf verdictGaugeOf violation connected byKind
       verdict-violation = go (eqb (k .kind) 5) refl
@@ -74,6 +78,15 @@ module _ (P : Plan) where
           go : (t : Bool) → eqb (k .kind) 5 ≡ t → violationBy (figuresOf P col) (verdictGaugeOf P col k) k ≡ violation P col k
           go true e = rw (eqb-true (k .kind) 5 e)
           go false e = rw (e, cond-twice (eqb (k .kind) 4) (bounded P col k))
+
+    -- the figures and the constraints of kinds 1 to 3 make the total
+    pub total-by : totalBy (figuresOf P col) (shared (P .constraints)) ≡ total P col
+    unfolding totalBy figuresOf
+    total-by =
+        let ks = P .constraints in
+        ap (λ n. n + limitTotal P col + dwellTotal P col)
+        (sym (kinds-sum 1 3 ks (violationBy (figuresOf P col) 0)) ∙ weighted-all ks _ _ shared-violation ∙ kinds-sum 1 3 ks (violation P col))
+        ∙ sym (total-parts P col)
 
     module _ (constraints : List ℕ) (e : P .constraints ≡ constraintsOf constraints) where
       -- the workloads of the sectors make the gauges
@@ -87,7 +100,7 @@ module _ (P : Plan) where
       map-listOf g = ap (map g) e ∙ map-map g (constraintAt constraints) (places constraints)
 
       -- the gauges, one by one
-      pub gauges-listOf : gauges P col ≡ listOf (constraintCount constraints) (λ i. gaugeOf P col (constraintAt constraints i))
+      gauges-listOf : gauges P col ≡ listOf (constraintCount constraints) (λ i. gaugeOf P col (constraintAt constraints i))
       unfolding gauges
       gauges-listOf = map-listOf (gaugeOf P col)
 
@@ -110,18 +123,7 @@ module _ (P : Plan) where
           (ap (λ l. getD l i 0) p ∙ getD-listOf (constraintCount constraints) _ 0 i (omega arith))
           ∙ law (constraintAt constraints i))
 
-      -- the figures and the gauges make the total
-      pub total-by : totalBy (figuresOf P col) (gauges P col) constraints (constraintCount constraints) ≡ total P col
-      unfolding totalBy figuresOf constraintsOf
-      total-by =
-          ap (λ n. n + dwellTotal P col)
-          (sum-ext (places constraints) _ _
-          (every-turn (λ i h. ap (λ v. constraintAt constraints i .weight * v) h) (places constraints) (violations-at (gauges P col) (gaugeOf P col) keptViolation gauges-listOf kept-violation))
-          ∙ sym (sum-map (constraintAt constraints) (places constraints) (λ k. k .weight * keptViolation k))
-          ∙ ap (λ ks. sum ks (λ k. k .weight * keptViolation k)) (sym e))
-          ∙ sym (total-halves P col)
-
-      -- with the gauges that they ask for they make the verdicts
+      -- with the gauges that the verdicts ask for the figures make them
       pub verdicts-by : verdictsBy (figuresOf P col) (verdictGauges P col) constraints (constraintCount constraints) ≡ verdicts P col
       unfolding verdictsBy constraintsOf
       verdicts-by =

@@ -5,14 +5,14 @@ use mathlib.Core.List.{List, [], _∷_, map}
 use mathlib.Core.Bool.{cond, not}
 use lib.Dec.{eqb}
 use lib.ListN.{length, getD}
-use Rattle.lists.specs.Sums.{at, from, upTo, listOf, bit, sum}
+use Rattle.lists.specs.Sums.{at, upTo, listOf, bit, sum}
 use Rattle.terms.specs.Distance.{gap, stands, distance}
 use Rattle.meaning.specs.Plan.{Constraint, Plan, constraintLength, constraintAt, constraintsOf}
 use Rattle.meaning.specs.Kinds.{nccAll, border, counts, deviation, bounded, dwelling, byKind}
-use Rattle.meaning.specs.Prices.{dwellTotal}
+use Rattle.meaning.specs.Prices.{limitTotal, dwellTotal}
 use Rattle.judge.specs.declared.Figures.{Figures}
 
--- NCC, the sum of max(NCC(c) - 1, 0), T, D, and what the constraints of kind 5 add to the total
+-- NCC, the sum of max(NCC(c) - 1, 0), T, D, and what the constraints of kind 4 and of kind 5 add to the total
 unfoldable pub figuresOf : Plan → List ℕ → Figures
 figuresOf P col =
     record {
@@ -20,17 +20,19 @@ figuresOf P col =
       excess = sum (counts P col) (λ n. n - 1);
       border = border P col;
       deviation = deviation P col;
+      bounded = limitTotal P col;
       dwell = dwellTotal P col;
     }
 
--- the figures by the whole workload, the components and the workload of each sector, the border, and what kind 5 adds to the total
-unfoldable pub figuresBy : ℕ → ℕ → List ℕ → List ℕ → ℕ → ℕ → Figures
-figuresBy S W counts loads T dwell =
+-- the figures by the whole workload, the components and the workload of each sector, the border, and what kind 4 and kind 5 add to the total
+unfoldable pub figuresBy : ℕ → ℕ → List ℕ → List ℕ → ℕ → ℕ → ℕ → Figures
+figuresBy S W counts loads T limits dwell =
     record {
       components = sum counts (λ n. n);
       excess = sum counts (λ n. n - 1);
       border = T;
       deviation = sum loads (λ x. gap (S * x) W);
+      bounded = limits;
       dwell = dwell;
     }
 
@@ -75,13 +77,13 @@ violationBy F gauge k =
 abbrev pub violationAt : Figures → List ℕ → List ℕ → ℕ → ℕ
 violationAt F gauges constraints i = violationBy F (getD gauges i 0) (constraintAt constraints i)
 
--- its weight times its violation
-abbrev pub weightedAt : Figures → List ℕ → List ℕ → ℕ → ℕ
-weightedAt F gauges constraints i = constraintAt constraints i .weight * violationAt F gauges constraints i
+-- the weight of a constraint times its violation by the figures alone
+abbrev pub weightedBy : Figures → Constraint → ℕ
+weightedBy F k = k .weight * violationBy F 0 k
 
--- the total of the first n constraints of the flat list, by the figures and the gauges, of which those of kind 5 are 0
-unfoldable pub totalBy : Figures → List ℕ → List ℕ → ℕ → ℕ
-totalBy F gauges constraints n = sum (from 0 n) (weightedAt F gauges constraints) + F .dwell
+-- the total by the figures and the constraints of kinds 1 to 3
+unfoldable pub totalBy : Figures → List Constraint → ℕ
+totalBy F ks = sum ks (weightedBy F) + F .bounded + F .dwell
 
 -- for each violation its verdict: 1 or 0 for holds, then the violation
 abbrev pub judged : List ℕ → List ℕ

@@ -1,37 +1,38 @@
 -- What the judging functions take for granted: that the numbers are as small as the limits of the documents make them.
 -- Assumes nothing.
-use Prim.Native.Nat.{ℕ, _+_, _-_, _*_, _/_, _≤_, _<_, _^_}
+use Prim.Native.Nat.{ℕ, _-_, _*_, _/_, _≤_, _<_, _^_}
 use native.Mathlib.Nat.{mul-le-mul}
 use native.Mathlib.Omega.{arith}
 use mathlib.Core.Path.{_≡_, ap, _∙_}
-use mathlib.Core.List.{List, map}
+use mathlib.Core.List.{List}
 use mathlib.Core.Bool.{Bool, not}
 use lib.Dec.{eqb}
-use lib.ListN.{length, getD, length-map}
-use Rattle.lists.specs.Sums.{In, from, sum, Every}
-use Rattle.lists.specs.SumLaws.{few-bound, every-turn, every-map, every-from, length-from}
-use Rattle.lists.specs.ListLaws.{length-listOf, listOf-every}
+use lib.ListN.{length, length-map}
+use Rattle.lists.specs.Sums.{In, sum, Every}
+use Rattle.lists.specs.SumLaws.{few-bound, every-turn}
+use Rattle.lists.specs.ListLaws.{listOf-every}
 use Rattle.lists.specs.Tests.{cond-le, bit-le}
-use Rattle.lists.specs.Few.{Few, few-at, few-sum, few-table}
+use Rattle.lists.specs.Few.{Few, few-sum, few-table}
 use Rattle.terms.specs.Distance.{gap, stands, distance}
 use Rattle.terms.specs.DistanceLaws.{distance-bound}
 use Rattle.meaning.specs.Plan.{Edge, Constraint, Plan, Limits, ConstraintLimits, mostRegions, mostSectors, mostWorkload, mostEdges, mostArea, mostConstraints, mostLimit, mostWeight, edgeLength, edgeAt, edgesOf, constraintAt, constraintsOf}
 use Rattle.meaning.specs.Joined.{labels, leads}
-use Rattle.meaning.specs.Kinds.{ncc, nccAll, load, whole, areaOf, counts, loads, bounded, byKind}
+use Rattle.meaning.specs.Kinds.{ncc, nccAll, load, whole, areaOf, counts, loads, byKind}
 use Rattle.meaning.specs.Paths.{Ends, limits-ends}
-use Rattle.meaning.specs.Bounds.{mostLoad, mostDistance, mostBorder, mostDwelling, count-bound, ncc-bound, load-bound, whole-bound, border-bound, deviation-bound, dwelling-bound}
-use Rattle.meaning.specs.Prices.{mostDwellTotal}
-use Rattle.meaning.specs.PriceLaws.{dwell-total-bound}
+use Rattle.meaning.specs.Bounds.{mostLoad, mostDistance, mostBorder, count-bound, ncc-bound, load-bound, whole-bound, border-bound, deviation-bound}
+use Rattle.meaning.specs.Prices.{mostLimitTotal, mostDwellTotal}
+use Rattle.meaning.specs.PriceLaws.{limit-total-bound, dwell-total-bound}
+use Rattle.kinds.specs.Constraints.{Paying, length-constraints, constraint-every}
 use Rattle.judge.specs.declared.Figures.{Figures}
-use Rattle.judge.specs.Figures.{figuresOf, gaugeOf, gauges, verdictGaugeOf, verdictGauges, constraintCount, unweighted, violationBy, weightedAt, totalBy}
+use Rattle.judge.specs.Figures.{figuresOf, verdictGaugeOf, verdictGauges, constraintCount, unweighted, violationBy, weightedBy, totalBy}
 
 -- the most that the workload of a sector can be off the balance
 abbrev pub mostGap : ℕ
 mostGap = mostSectors * mostLoad
 
--- the most that a constraint's gauge, or its violation, can be: what kind 5 may have
-abbrev pub mostGauge : ℕ
-mostGauge = mostDwelling
+-- the most that those of all sectors together can be
+abbrev pub mostDeviation : ℕ
+mostDeviation = mostSectors * mostGap
 
 -- few edges between the regions 1..R, none of a large area
 pub record SmallEdges (R : ℕ) (edges : List Edge) : Type 0 where
@@ -51,13 +52,13 @@ pub record SmallFigures (F : Figures) : Type 0 where
   pub components : F .components ≤ mostRegions
   pub excess : F .excess ≤ mostSectors * mostRegions
   pub border : F .border ≤ mostBorder
-  pub deviation : F .deviation ≤ mostSectors * mostGap
+  pub deviation : F .deviation ≤ mostDeviation
+  pub bounded : F .bounded ≤ mostLimitTotal
   pub dwell : F .dwell ≤ mostDwellTotal
 
--- figures and gauges as small as those of a colouring, a gauge for each constraint of the flat list, and constraints within their limits
+-- figures as small as those of a colouring, a gauge for each constraint of the flat list, and constraints within their limits
 pub record Small (F : Figures) (gauges constraints : List ℕ) : Type 0 where
   pub figures : SmallFigures F
-  pub gauge : Few mostConstraints mostGauge gauges
   pub size : length gauges ≡ constraintCount constraints
   pub constraint : Every ConstraintLimits (constraintsOf constraints)
 
@@ -65,13 +66,13 @@ pub record Small (F : Figures) (gauges constraints : List ℕ) : Type 0 where
 
 module _ {loads : List ℕ} (few : Few mostSectors mostLoad loads) where
   -- the deviation
-  pub deviation-small : {S W : ℕ} → S ≤ mostSectors → W ≤ mostLoad → sum loads (λ x. gap (S * x) W) ≤ mostSectors * mostGap
+  pub deviation-small : {S W : ℕ} → S ≤ mostSectors → W ≤ mostLoad → sum loads (λ x. gap (S * x) W) ≤ mostDeviation
   deviation-small {S} {W} s w = few-sum few mostGap (λ x. gap (S * x) W) (λ x h. omega (arith, mul-le-mul s h))
 
   -- the distances from a limit
-  pub distances-small : (relation : ℕ) {limit : ℕ} → limit ≤ mostLimit → sum loads (λ x. distance relation x limit) ≤ mostGauge
+  pub distances-small : (relation : ℕ) {limit : ℕ} → limit ≤ mostLimit → sum loads (λ x. distance relation x limit) ≤ mostSectors * mostDistance
   distances-small relation {limit} l =
-      omega (arith, few-sum few mostDistance (λ x. distance relation x limit) (λ x h. omega (arith, distance-bound relation x limit)))
+      few-sum few mostDistance (λ x. distance relation x limit) (λ x h. omega (arith, distance-bound relation x limit))
 
 -- ---- the numbers of a plan within its limits are as small
 
@@ -105,7 +106,7 @@ module _ (P : Plan) (l : Limits P) where
     tallies-small = record { sectors = l .S .high; whole = whole-bound P l; count = counts-small; load = loads-small }
 
     -- the figures
-    figures-small : SmallFigures (figuresOf P col)
+    pub figures-small : SmallFigures (figuresOf P col)
     unfolding figuresOf nccAll
     figures-small =
         record {
@@ -113,53 +114,23 @@ module _ (P : Plan) (l : Limits P) where
           excess = few-sum counts-small mostRegions (λ n. n - 1) (λ n h. omega arith);
           border = border-bound P l col;
           deviation = deviation-bound P l col;
+          bounded = limit-total-bound l col;
           dwell = dwell-total-bound l col;
         }
-
-    -- a gauge
-    gauge-small : (k : Constraint) → ConstraintLimits k → gaugeOf P col k ≤ mostGauge
-    unfolding gaugeOf bounded
-    gauge-small k h =
-        cond-le (eqb (k .kind) 4) (distances-small loads-small (k .relation) (h .limit)) (omega arith)
-
-    -- and what a verdict asks for
-    verdict-gauge-small : (k : Constraint) → ConstraintLimits k → verdictGaugeOf P col k ≤ mostGauge
-    unfolding verdictGaugeOf
-    verdict-gauge-small k h = cond-le (eqb (k .kind) 5) (dwelling-bound P l col k (h .limit)) (gauge-small k h)
-
-    -- the figures, and gauges of which each is as small
-    gauged-small : (g : Constraint → ℕ) → ((k : Constraint) → ConstraintLimits k → g k ≤ mostGauge) → (constraints : List ℕ) → P .constraints ≡ constraintsOf constraints → Small (figuresOf P col) (map g (P .constraints)) constraints
-    unfolding constraintsOf
-    gauged-small g h constraints e =
-        record {
-          figures = figures-small;
-          gauge =
-              record {
-                few = rw (length-map (P .constraints) g) (l .constraints);
-                each = every-map _ g (P .constraints) (every-turn h (P .constraints) (l .constraint));
-              };
-          size = length-map (P .constraints) g ∙ ap length e ∙ length-listOf (constraintCount constraints) (constraintAt constraints);
-          constraint = rw e at (l .constraint);
-        }
-
-    -- the figures and the gauges
-    pub plan-small : (constraints : List ℕ) → P .constraints ≡ constraintsOf constraints → Small (figuresOf P col) (gauges P col) constraints
-    unfolding gauges
-    plan-small = gauged-small (gaugeOf P col) gauge-small
 
     -- the figures and the gauges that the verdicts ask for
     pub verdicts-small : (constraints : List ℕ) → P .constraints ≡ constraintsOf constraints → Small (figuresOf P col) (verdictGauges P col) constraints
     unfolding verdictGauges
-    verdicts-small = gauged-small (verdictGaugeOf P col) verdict-gauge-small
+    verdicts-small constraints e =
+        record {
+          figures = figures-small;
+          size = length-map (P .constraints) (verdictGaugeOf P col) ∙ ap length e ∙ length-constraints constraints;
+          constraint = rw e at (l .constraint);
+        }
 
 -- ---- what follows for each item, and for the sums over all
 
--- each constraint of the flat list keeps to its limits
-pub constraint-limits : (constraints : List ℕ) → Every ConstraintLimits (constraintsOf constraints) → (i : ℕ) → i < constraintCount constraints → ConstraintLimits (constraintAt constraints i)
-unfolding constraintsOf
-constraint-limits constraints = listOf-every ConstraintLimits (constraintCount constraints) (constraintAt constraints)
-
--- so does one of its kind, relation and limit of weight 1
+-- a constraint of weight 1 keeps to its limits where one of its kind, relation and limit does
 pub unweighted-limits : {k : Constraint} → ConstraintLimits k → ConstraintLimits (unweighted (k .kind) (k .relation) (k .limit))
 unweighted-limits l =
     record { kind = l .kind; relation = l .relation; limit = l .limit; weight = record { low = omega arith; high = omega arith } }
@@ -174,30 +145,32 @@ pub area-bound : {R : ℕ} {edges : List Edge} → SmallEdges R edges → (p : E
 area-bound {R} {edges} s p =
     few-bound mostEdges mostArea edges _ (s .few) (every-turn (λ e h. cond-le (p e) {b = 0} h (omega arith)) edges (s .area))
 
--- a constraint's violation is at most what its gauge may be
-pub violation-bound : (F : Figures) (gauge : ℕ) (k : Constraint) → SmallFigures F → gauge ≤ mostGauge → violationBy F gauge k ≤ mostGauge
-unfolding violationBy byKind
-violation-bound F gauge k f g =
-    cond-le (eqb (k .kind) 1) (omega (arith, f .excess, bit-le (not (stands (k .relation) (F .components) (k .limit)))))
-    (cond-le (eqb (k .kind) 2) (omega (arith, f .border))
-    (cond-le (eqb (k .kind) 3) (omega (arith, f .deviation))
-    (cond-le (eqb (k .kind) 4) g (cond-le (eqb (k .kind) 5) g (omega arith)))))
+module _ {F : Figures} (f : SmallFigures F) where
+  -- the violation of a constraint by the figures alone is at most what the deviation may be
+  violation-bound : (k : Constraint) → violationBy F 0 k ≤ mostDeviation
+  unfolding violationBy byKind
+  violation-bound k =
+      cond-le (eqb (k .kind) 1) (omega (arith, f .excess, bit-le (not (stands (k .relation) (F .components) (k .limit)))))
+      (cond-le (eqb (k .kind) 2) (omega (arith, f .border))
+      (cond-le (eqb (k .kind) 3) (omega (arith, f .deviation))
+      (cond-le (eqb (k .kind) 4) (omega arith) (cond-le (eqb (k .kind) 5) (omega arith) (omega arith)))))
 
-module _ {F : Figures} {gauges constraints : List ℕ} (s : Small F gauges constraints) where
-  -- a weighted violation is at most 1000 times as much
-  pub weighted-bound : (i : ℕ) → i < constraintCount constraints → weightedAt F gauges constraints i ≤ mostWeight * mostGauge
-  weighted-bound i h =
-      mul-le-mul (constraint-limits constraints (s .constraint) i h .weight .high)
-      (violation-bound F (getD gauges i 0) (constraintAt constraints i) (s .figures) (few-at (s .gauge) i))
+  module _ {shared : List ℕ} (t : Paying shared) where
+    -- with its weight it is at most 1000 times as much
+    weighted-small : Every (λ k. weightedBy F k ≤ mostWeight * mostDeviation) (constraintsOf shared)
+    weighted-small = every-turn (λ k l. mul-le-mul (l .weight .high) (violation-bound k)) (constraintsOf shared) (t .constraint)
 
-  -- the total fits, though it is made up of figures and gauges of no one colouring
-  pub total-bound : totalBy F gauges constraints (constraintCount constraints) < 2 ^ 64
-  unfolding totalBy
-  total-bound =
-      omega (
-        arith,
-        few-bound mostConstraints (mostWeight * mostGauge) (from 0 (constraintCount constraints)) (weightedAt F gauges constraints)
-            (rw (length-from 0 (constraintCount constraints), ← s .size) (s .gauge .few))
-            (every-from _ 0 (constraintCount constraints) (λ i lo hi. weighted-bound i (omega arith))),
-        s .figures .dwell,
-      )
+    -- so too at each place of the flat list
+    pub weighted-bound : {i : ℕ} → i < constraintCount shared → weightedBy F (constraintAt shared i) ≤ mostWeight * mostDeviation
+    weighted-bound h = constraint-every shared h (λ k. weightedBy F k ≤ mostWeight * mostDeviation) weighted-small
+
+    -- the total fits, though it is made up of figures of no one colouring
+    pub total-bound : totalBy F (constraintsOf shared) < 2 ^ 64
+    unfolding totalBy
+    total-bound =
+        omega (
+          arith,
+          few-bound mostConstraints (mostWeight * mostDeviation) (constraintsOf shared) (weightedBy F) (t .few) weighted-small,
+          f .bounded,
+          f .dwell,
+        )

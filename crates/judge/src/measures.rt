@@ -1,5 +1,6 @@
-// The figures of a colouring and the gauges of the constraints, by the tallies.
+// The figures of a colouring, what each sector pays, and the gauges of the constraints, by the tallies.
 ghost use mathlib.Core.Path.{_≡_};
+ghost use mathlib.Core.List.{map};
 ghost use Prim.Native.Nat.{_-_, _*_, _≤_};
 ghost use lib.ListN.{length};
 ghost use Rattle.lists.specs.Sums.{sum, Every};
@@ -7,6 +8,8 @@ ghost use Rattle.lists.specs.Few.{Few};
 ghost use Rattle.terms.specs.Distance.{gap, distance};
 ghost use Rattle.meaning.specs.Plan.{ConstraintLimits, mostSectors, mostRegions, mostLimit, constraintsOf};
 ghost use Rattle.meaning.specs.Bounds.{mostLoad};
+ghost use Rattle.meaning.specs.Prices.{price};
+ghost use Rattle.kinds.specs.Constraints.{Paying};
 ghost use Rattle.judge.specs.Figures.{figuresBy, gaugeBy, gaugesBy, constraintCount, unweighted};
 ghost use Rattle.judge.specs.Small.{SmallTallies};
 use crate::Figures;
@@ -47,24 +50,40 @@ fn deviation_of(sectors: u64, whole: u64, loads: &[u64]) -> u64
     sum
 }
 
-// The figures by the tallies, the whole workload, the border and what the constraints of kind 5 add to the total.
+// The figures by the tallies, the whole workload, the border and what the constraints of kind 4 and of kind 5 add to the total.
 pub fn figures_of(
     sectors: u64,
     whole: u64,
     counts: &[u64],
     loads: &[u64],
     border: u64,
+    bounded: u64,
     dwell: u64,
 ) -> Figures
     requires { ⌜ SmallTallies sectors whole (now counts) (now loads) ⌝ }
-    ensures { λ r. ⌜ r ≡ figuresBy sectors whole (now (counts .entry)) (now (loads .entry)) border dwell ⌝ }
+    ensures { λ r. ⌜ r ≡ figuresBy sectors whole (now (counts .entry)) (now (loads .entry)) border bounded dwell ⌝ }
 {
     Figures {
         components: sum_of(counts),
         excess: excess_of(counts),
         border,
         deviation: deviation_of(sectors, whole, loads),
+        bounded,
         dwell,
+    }
+}
+
+// Puts down what each sector pays for the constraints of kind 4, by its workload.
+pub fn price_all(limited: &[u64], loads: &[u64], prices: &mut [u64])
+    requires { ⌜ Paying (now limited) ⌝ }
+    requires { ⌜ Few mostSectors mostLoad (now loads) ⌝ }
+    requires { ⌜ length (now prices) ≡ length (now loads) ⌝ }
+    ensures { λ _. ⌜ now (prices .exit) ≡ map (price (constraintsOf (now (limited .entry)))) (now (loads .entry)) ⌝ }
+{
+    let mut i = 0;
+    while i < prices.len() {
+        prices[i] = kinds::price(limited, loads[i]);
+        i += 1;
     }
 }
 

@@ -6,9 +6,10 @@ ghost use Prim.Native.Nat.{_*_, _<_, _≤_, _^_};
 ghost use lib.ListN.{length, drop};
 ghost use Rattle.lists.specs.Sums.{In, bit};
 ghost use Rattle.terms.specs.Distance.{stands};
-ghost use Rattle.meaning.specs.Plan.{ConstraintLimits};
+ghost use Rattle.meaning.specs.Plan.{ConstraintLimits, constraintsOf};
 ghost use Rattle.meaning.specs.Moves.{verdictLength};
-ghost use Rattle.judge.specs.Figures.{constraintCount, unweighted, violationBy, violationAt, weightedAt, totalBy, verdictsBy};
+ghost use Rattle.kinds.specs.Constraints.{Paying};
+ghost use Rattle.judge.specs.Figures.{constraintCount, unweighted, violationBy, violationAt, totalBy, verdictsBy};
 ghost use Rattle.judge.specs.Small.{SmallFigures, Small};
 use crate::Figures;
 use crate::bit_of;
@@ -63,28 +64,22 @@ pub fn violation_at(constraints: &[u64], figures: Figures, gauges: &[u64], k: us
     )
 }
 
-// The weight times the violation of constraint k, from 0.
-pub fn weighted_at(constraints: &[u64], figures: Figures, gauges: &[u64], k: usize) -> u64
-    requires { ⌜ Small figures (now gauges) (now constraints) ⌝ }
-    requires { ⌜ k < constraintCount (now constraints) ⌝ }
-    ensures { λ r. ⌜ r ≡ weightedAt figures (now (gauges .entry)) (now (constraints .entry)) k ⌝ }
+// The total: weight times violation, summed over the constraints of kinds 1 to 3, and what the figures have of kinds 4 and 5.
+pub fn total(shared: &[u64], figures: Figures) -> u64
+    requires { ⌜ SmallFigures figures ⌝ }
+    requires { ⌜ Paying (now shared) ⌝ }
+    ensures { λ r. ⌜ r ≡ totalBy figures (constraintsOf (now (shared .entry))) ⌝ }
 {
-    constraints[CONSTRAINT_LENGTH * k + 3] * violation_at(constraints, figures, gauges, k)
-}
-
-// The total: weight times violation, summed over the constraints; the figures have what those of kind 5 add to it, and their gauges nothing.
-pub fn total(constraints: &[u64], figures: Figures, gauges: &[u64]) -> u64
-    requires { ⌜ Small figures (now gauges) (now constraints) ⌝ }
-    ensures { λ r. ⌜ r ≡ totalBy figures (now (gauges .entry)) (now (constraints .entry)) (constraintCount (now (constraints .entry))) ⌝ }
-{
-    let n = constraints.len() / CONSTRAINT_LENGTH;
+    let n = shared.len() / CONSTRAINT_LENGTH;
     let mut total = 0;
     let mut k = 0;
     while k < n {
-        total += weighted_at(constraints, figures, gauges, k);
+        let at = CONSTRAINT_LENGTH * k;
+        let v = violation(figures, 0, shared[at], shared[at + 1], shared[at + 2]);
+        total += shared[at + 3] * v;
         k += 1;
     }
-    total + figures.dwell
+    total + figures.bounded + figures.dwell
 }
 
 // Puts down the verdict on each constraint; what lies beyond stays.

@@ -148,12 +148,7 @@ weighted-parts ks f g h = sum-all ks _ _ (λ k. go k (eqb (k .kind) 5) refl) ∙
     go k false e = omega (arith, mul-zero (k .weight))
 
 module _ (P : Plan) (col : List ℕ) where
-  -- the total: what the other kinds add, and what kind 5 adds
-  pub total-halves : total P col ≡ weighted (P .constraints) (λ k. cond (eqb (k .kind) 5) 0 (violation P col k)) + dwellTotal P col
-  unfolding total violation dwellTotal
-  total-halves = weighted-parts (P .constraints) (violation P col) (dwelling P col) (λ k e. by-kind-5 _ _ _ _ _ e)
-
-  -- a region's violation likewise
+  -- a region's violation: what the other kinds add, and what kind 5 adds
   pub region-halves : (v : ℕ)
       → regionViolation P col v
       ≡ weighted (P .constraints) (λ k. cond (eqb (k .kind) 5) 0 (partOf P col v (at col v) k)) + visitorsPrice (timed (P .constraints)) col false v (P .flights)

@@ -6,9 +6,10 @@ use borrow.Author.Needs.{needs}
 use lib.ListN.{length, length-set}
 use Rattle.lists.specs.ListLaws.{length-listOf, drop-listOf}
 use Rattle.lists.specs.Loops.{Mapped, mapped-start, mapped-turn, mapped-end}
-use Rattle.meaning.specs.Plan.{constraintsOf}
+use Rattle.meaning.specs.Plan.{constraintsOf, ConstraintLimits}
+use Rattle.kinds.specs.Constraints.{constraint-every}
 use Rattle.judge.specs.Figures.{constraintCount, gaugeBy, gaugesBy}
-use Rattle.judge.specs.Small.{constraint-limits, unweighted-limits}
+use Rattle.judge.specs.Small.{unweighted-limits}
 use Rattle.judge.proofs.measures.gauge_all.Statement.{statement}
 use Rattle.judge.proofs.measures.gauge_all.Tie as tie
 
@@ -54,8 +55,8 @@ shared-slice-read-gauge-of-3 c = search needs
 gauge-of-requires : tie.Need-gauge-of-requires Inv-loop μ-loop
 gauge-of-requires c κs =
     let st = c .before .before .before .before .before .before .before .before in
-    let k = c .before .before .before .before .loop .k in
-    (st .pre .0, unweighted-limits (constraint-limits (st .args .constraints .now) (st .pre .1 .0) k (omega arith)))
+    let h : c .before .before .before .before .loop .k < constraintCount (st .args .constraints .now) = omega arith in
+    (st .pre .0, unweighted-limits (constraint-every _ h ConstraintLimits (st .pre .1 .0)))
 
 mul-gauges : tie.Need-mul-gauges Inv-loop μ-loop
 mul-gauges c = search needs

@@ -1,7 +1,9 @@
 -- The numbers read are those of the constraint at its place.
 use borrow.Author.Needs.{needs}
+use Rattle.meaning.specs.Plan.{ConstraintLimits}
+use Rattle.kinds.specs.Constraints.{constraint-every}
 use Rattle.judge.specs.Figures.{violationBy}
-use Rattle.judge.specs.Small.{constraint-limits, unweighted-limits}
+use Rattle.judge.specs.Small.{unweighted-limits}
 use Rattle.judge.proofs.verdicts.violation_at.Statement.{statement}
 use Rattle.judge.proofs.verdicts.violation_at.Tie as tie
 
@@ -41,7 +43,7 @@ shared-slice-read-violation-4 c = search needs
 violation-requires : tie.Need-violation-requires
 violation-requires c κs =
     let st = c .before .before .before .before .before .before in
-    (st .pre .0 .figures, unweighted-limits (constraint-limits (st .args .constraints .now) (st .pre .0 .constraint) (st .args .k) (st .pre .1)))
+    (st .pre .0 .figures, unweighted-limits (constraint-every _ (st .pre .1) ConstraintLimits (st .pre .0 .constraint)))
 
 returns : tie.Need-returns
 unfolding violationBy
