@@ -2,7 +2,7 @@
 -- Assumes nothing.
 use Prim.Native.Nat.{ℕ, _+_, _-_, _*_, _≤_, _<_, _^_}
 use native.Mathlib.Omega.{arith}
-use mathlib.Core.Path.{_≡_, _∙_}
+use mathlib.Core.Path.{_≡_, ap, _∙_}
 use mathlib.Core.Logic.{_≢_}
 use mathlib.Core.List.{List}
 use mathlib.Core.Bool.{true}
@@ -15,7 +15,7 @@ use Rattle.meaning.specs.Kinds.{ncc, load, border, counts, loads, leadsTo}
 use Rattle.meaning.specs.Moves.{recolour}
 use Rattle.meaning.specs.Faces.{lift, areaTo}
 use Rattle.meaning.specs.Bounds.{mostBorder, border-bound}
-use Rattle.meaning.specs.Prices.{mostDwellTotal, timed, visitorsPrice, dwellTotal}
+use Rattle.meaning.specs.Prices.{mostDwellTotal, limited, timed, price, sectorPrice, prices, visitorsPrice, dwellTotal}
 use Rattle.meaning.specs.PriceLaws.{dwell-recolour, dwell-total-bound, cost-bound}
 use Rattle.meaning.specs.Recoloured.{coloured-recolour, load-rest, ncc-rest, border-recolour}
 use Rattle.judge.specs.Small.{edges-small, area-bound}
@@ -23,16 +23,24 @@ use Rattle.change.specs.declared.Pair.{Pair}
 use Rattle.change.specs.declared.Sides.{Sides}
 use Rattle.change.specs.declared.Swing.{Swing}
 use Rattle.change.specs.declared.Change.{Change}
-use Rattle.change.specs.Shift.{swing, together, inTurn}
+use Rattle.change.specs.Shift.{each, swing, together, inTurn}
 use Rattle.change.specs.Small.{Swings, Summable, Addable}
 
 -- the numbers of two sectors
 abbrev pub pairOf : (ℕ → ℕ) → ℕ → ℕ → Pair
 pairOf f own d = record { old = f own; new = f d }
 
--- the components and the workloads of two sectors in a colouring
+-- the components and the workloads of two sectors in a colouring, and what they pay for the constraints of kind 4
 abbrev pub sidesOf : Plan → List ℕ → ℕ → ℕ → Sides
-sidesOf P col own d = record { components = pairOf (ncc P col) own d; workloads = pairOf (load P col) own d }
+sidesOf P col own d =
+    record { components = pairOf (ncc P col) own d; workloads = pairOf (load P col) own d; prices = pairOf (sectorPrice P col) own d }
+
+-- the prices of their workloads are what they pay
+pub sides-prices : (P : Plan) (col : List ℕ) (own d : ℕ) {s : Sides} → s .components ≡ pairOf (ncc P col) own d → s .workloads ≡ pairOf (load P col) own d
+    → s .prices ≡ each (price (limited (P .constraints))) (s .workloads) → s ≡ sidesOf P col own d
+unfolding sectorPrice
+sides-prices P col own d components workloads prices =
+    rw (← components, ← workloads, ← (prices ∙ ap (each (price (limited (P .constraints)))) workloads))
 
 -- a figure goes from x to x′ by what it gains and loses, and gains no more than two recolourings can add, each of them B
 pub record Swung (x x′ B : ℕ) (s : Swing) : Type 0 where
@@ -75,6 +83,13 @@ module _ {P : Plan} {col col′ : List ℕ} {own d : ℕ} {c : Change} (ch : Cha
   pub changed-loads : loads P col′ ≡ set (set (loads P col) (own - 1) (load P col′ own)) (d - 1) (load P col′ d)
   unfolding loads
   changed-loads = table-change (load P col′) (load P col) (ch .old) (ch .new) (λ e h n m. ch .others e h n m .1)
+
+  -- and what the sectors pay
+  pub changed-prices : prices P col′ ≡ set (set (prices P col) (own - 1) (sectorPrice P col′ own)) (d - 1) (sectorPrice P col′ d)
+  unfolding prices sectorPrice
+  changed-prices =
+      table-change (sectorPrice P col′) (sectorPrice P col) (ch .old) (ch .new)
+      (λ e h n m. ap (price (limited (P .constraints))) (ch .others e h n m .1))
 
 -- the faces of a region to a sector have no more area than a border may have
 pub faces-bound : {P : Plan} → Limits P → (col : List ℕ) (v d : ℕ) → areaTo (P .edges) col v d ≤ mostBorder

@@ -1,31 +1,26 @@
--- The figures, the gauges and the total follow a change: afterwards they are those of the new colouring.
+-- The figures and the total follow a change: afterwards they are those of the new colouring.
 -- Assumes nothing.
 use Prim.Native.Nat.{ℕ, _+_, _-_, _*_, _≤_, _<_, _^_}
 use native.Mathlib.Nat.{mul-le-mul}
 use native.Mathlib.Omega.{arith}
-use mathlib.Core.Path.{_≡_, refl, sym, ap, _∙_}
-use mathlib.Core.Bool.{Bool, true, false, cond}
+use mathlib.Core.Path.{_≡_}
 use mathlib.Core.List.{List}
-use lib.Dec.{eqb}
-use Rattle.lists.specs.Sums.{from, sum}
-use Rattle.lists.specs.SumLaws.{every-from}
-use Rattle.lists.specs.ListLaws.{map-ext}
-use Rattle.terms.specs.Distance.{gap, distance}
-use Rattle.terms.specs.DistanceLaws.{distance-bound}
-use Rattle.meaning.specs.Plan.{Constraint, Plan, Limits, ConstraintLimits, Coloured, mostRegions, mostSectors, constraintAt, constraintsOf}
-use Rattle.meaning.specs.Kinds.{whole, border, counts, loads, deviation, bounded, total}
+use Rattle.lists.specs.Sums.{sum}
+use Rattle.terms.specs.Distance.{gap}
+use Rattle.meaning.specs.Plan.{Plan, Limits, Coloured, mostRegions, mostSectors}
+use Rattle.meaning.specs.Kinds.{whole, border, counts, loads, deviation, total}
 use Rattle.meaning.specs.Components.{counts-length, counts-at, loads-length, loads-at, ncc-sum}
-use Rattle.meaning.specs.Bounds.{mostLoad, mostDistance, ncc-bound, load-bound, whole-bound, border-bound}
-use Rattle.meaning.specs.PriceLaws.{dwell-total-bound}
-use Rattle.judge.specs.Figures.{figuresOf, gaugeOf, gauges, constraintCount, totalBy}
-use Rattle.judge.specs.FigureLaws.{gauges-listOf, gauge-at, total-by}
-use Rattle.judge.specs.Small.{mostGap, tallies-small, plan-small, constraint-limits}
+use Rattle.meaning.specs.Bounds.{mostLoad, ncc-bound, load-bound, whole-bound, border-bound}
+use Rattle.meaning.specs.Prices.{shared, prices, mostSectorPrice}
+use Rattle.meaning.specs.PriceLaws.{prices-total, prices-length, prices-at, sector-price-bound, prices-few, dwell-total-bound}
+use Rattle.judge.specs.Figures.{figuresOf, totalBy}
+use Rattle.judge.specs.FigureLaws.{total-by}
+use Rattle.judge.specs.Small.{SmallFigures, mostGap, tallies-small, figures-small}
 use Rattle.change.specs.declared.Change.{Change}
-use Rattle.change.specs.Shift.{each, shift, figuresAfter, gaugeAfter, gaugesAfter, totalAfter}
-use Rattle.change.specs.ShiftLaws.{total-by-gauges}
-use Rattle.change.specs.Small.{AtMost, Fits, Shifting, GaugeShifting, GaugesShifting, Totalling}
+use Rattle.change.specs.Shift.{each, figuresAfter}
+use Rattle.change.specs.Small.{AtMost, Fits, Shifting}
 use Rattle.change.specs.TwoTerms.{Shifts, shifts-set, shifts-sum, shifts-fit}
-use Rattle.change.specs.Changed.{Changed, swung-fits, swung-swing, changed-counts, changed-loads}
+use Rattle.change.specs.Changed.{Changed, swung-fits, swung-swing, changed-counts, changed-loads, changed-prices}
 
 module _ {P : Plan} {col col′ : List ℕ} {own d : ℕ} {c : Change} (l : Limits P) (k : Coloured P col) (ch : Changed P col col′ own d c) where
   -- the sums over the components of the sectors
@@ -39,6 +34,12 @@ module _ {P : Plan} {col col′ : List ℕ} {own d : ℕ} {c : Change} (l : Limi
   loads-shift =
       rw (ch .before, ch .after, ← loads-at P col own (ch .old), ← loads-at P col d (ch .new))
       (shifts-set (loads P col) (loads-length P col) (ch .old) (ch .new) (ch .other) (changed-loads ch))
+
+  -- the sums over what they pay
+  prices-shift : Shifts (prices P col) (prices P col′) (c .before .prices) (c .after .prices)
+  prices-shift =
+      rw (ch .before, ch .after, ← prices-at P col own (ch .old), ← prices-at P col d (ch .new))
+      (shifts-set (prices P col) (prices-length P col) (ch .old) (ch .new) (ch .other) (changed-prices ch))
 
   -- the workloads of the two sectors are small before the change
   before-small : AtMost mostLoad (c .before .workloads)
@@ -58,6 +59,12 @@ module _ {P : Plan} {col col′ : List ℕ} {own d : ℕ} {c : Change} (l : Limi
   loads-fit : (f : ℕ → ℕ) {C : ℕ} → ((x : ℕ) → x ≤ mostLoad → f x ≤ C) → (mostSectors + 2) * C < 2 ^ 64 → Fits (sum (loads P col) f) (each f (c .before .workloads)) (each f (c .after .workloads))
   loads-fit f h room = shifts-fit loads-shift f (tallies-small P l col .load) after-small h room
 
+  -- so can the sum of what the sectors pay
+  prices-fit : Fits (sum (prices P col) (λ n. n)) (c .before .prices) (c .after .prices)
+  prices-fit =
+      shifts-fit prices-shift (λ n. n) {C = mostSectorPrice} (prices-few l col)
+      (rw (ch .after) (record { old = sector-price-bound l col′ own; new = sector-price-bound l col′ d })) (λ n h. h) (omega arith)
+
   -- the figures can follow the change
   pub shifting : Shifting (P .S) (whole P) (figuresOf P col) c
   unfolding figuresOf deviation
@@ -70,6 +77,7 @@ module _ {P : Plan} {col col′ : List ℕ} {own d : ℕ} {c : Change} (l : Limi
         before = before-small;
         after = after-small;
         deviation = loads-fit (λ x. gap (P .S * x) (whole P)) {C = mostGap} (λ x h. omega (arith, mul-le-mul (l .S .high) h, whole-bound P l)) (omega arith);
+        bounded = rw (prices-total P col) prices-fit;
         dwell = swung-fits (ch .dwell) (dwell-total-bound l col) (omega arith);
       }
 
@@ -83,58 +91,17 @@ module _ {P : Plan} {col col′ : List ℕ} {own d : ℕ} {c : Change} (l : Limi
         shifts-sum counts-shift (λ n. n),
         shifts-sum counts-shift (λ n. n - 1),
         shifts-sum loads-shift (λ x. gap (P .S * x) (whole P)),
+        prices-total P col,
+        prices-total P col′,
+        shifts-sum prices-shift (λ n. n),
         swung-swing (ch .border),
         swung-swing (ch .dwell),
       )
 
-  -- a gauge can follow the change
-  gauge-shifting : (q : Constraint) → ConstraintLimits q → GaugeShifting (gaugeOf P col q) q c
-  unfolding gaugeOf bounded
-  gauge-shifting q h =
-      record {
-        constraint = h;
-        before = before-small;
-        after = after-small;
-        bounded = λ four. rw four (loads-fit (λ x. distance (q .relation) x (q .limit)) {C = mostDistance} (λ x m. omega (arith, distance-bound (q .relation) x (q .limit), h .limit)) (omega arith));
-      }
+  -- they are as small as those of a colouring
+  pub figures-after-small : SmallFigures (figuresAfter (P .S) (whole P) (figuresOf P col) c)
+  figures-after-small = rw figures-after (figures-small P l col′)
 
-  -- the gauge after the change is that of the new colouring
-  pub gauge-after : (q : Constraint) → gaugeAfter (gaugeOf P col q) q c ≡ gaugeOf P col′ q
-  unfolding gaugeAfter gaugeOf bounded
-  gauge-after q = go (eqb (q .kind) 4)
-    where
-      f : ℕ → ℕ
-      f x = distance (q .relation) x (q .limit)
-
-      go : (t : Bool) → cond t (shift (cond t (sum (loads P col) f) 0) (each f (c .before .workloads)) (each f (c .after .workloads))) 0 ≡ cond t (sum (loads P col′) f) 0
-      go true = shifts-sum loads-shift f
-      go false = refl
-
-  module _ (constraints : List ℕ) (e : P .constraints ≡ constraintsOf constraints) where
-    -- the gauges can follow the change
-    pub gauges-shifting : GaugesShifting (gauges P col) constraints c
-    gauges-shifting =
-        let small = plan-small P l col constraints e in
-        record {
-          size = small .size;
-          gauge = λ n h. rw (gauge-at P col constraints e n h) (gauge-shifting (constraintAt constraints n) (constraint-limits constraints (small .constraint) n h));
-        }
-
-    -- the gauges after the change are those of the new colouring
-    pub gauges-after : gaugesAfter (gauges P col) constraints (constraintCount constraints) c ≡ gauges P col′
-    unfolding gaugesAfter
-    gauges-after =
-        map-ext (from 0 (constraintCount constraints)) _ _
-        (every-from _ 0 (constraintCount constraints) (λ n lo hi. rw (gauge-at P col constraints e n (omega arith)) (gauge-after (constraintAt constraints n))))
-        ∙ sym (gauges-listOf P col′ constraints e)
-
-    -- the total after the change can be had
-    pub totalling : Totalling (figuresOf P col′) (gauges P col) constraints c
-    totalling = record { before = gauges-shifting; after = rw gauges-after (plan-small P l col′ constraints e) }
-
-    -- the total after the change is that of the new colouring
-    pub total-after : totalAfter (figuresOf P col′) (gauges P col) constraints (constraintCount constraints) c ≡ total P col′
-    total-after =
-        total-by-gauges (gauges P col) constraints (constraintCount constraints) c (figuresOf P col′)
-        ∙ ap (λ g. totalBy (figuresOf P col′) g constraints (constraintCount constraints)) gauges-after
-        ∙ total-by P col′ constraints e
+  -- and make the total of the new colouring
+  pub total-after : totalBy (figuresAfter (P .S) (whole P) (figuresOf P col) c) (shared (P .constraints)) ≡ total P col′
+  total-after = rw figures-after (total-by P col′)

@@ -1,15 +1,8 @@
--- The figures, the gauges and the total after a change, from those before it and from what changes in two sectors.
+-- The figures after a change, from those before it and from what changes in two sectors.
 -- Assumes nothing.
 use Prim.Native.Nat.{ℕ, _+_, _-_, _*_}
-use mathlib.Core.Bool.{cond}
-use mathlib.Core.List.{List}
-use lib.Dec.{eqb}
-use lib.ListN.{getD}
-use Rattle.lists.specs.Sums.{from, listOf, sum}
-use Rattle.terms.specs.Distance.{gap, distance}
-use Rattle.meaning.specs.Plan.{Constraint, constraintAt}
+use Rattle.terms.specs.Distance.{gap}
 use Rattle.judge.specs.declared.Figures.{Figures}
-use Rattle.judge.specs.Figures.{violationBy}
 use Rattle.change.specs.declared.Pair.{Pair}
 use Rattle.change.specs.declared.Sides.{Sides}
 use Rattle.change.specs.declared.Swing.{Swing}
@@ -27,10 +20,6 @@ lessOne components = each (λ n. n - 1) components
 abbrev pub offBalance : ℕ → ℕ → Pair → Pair
 offBalance S W workloads = each (λ x. gap (S * x) W) workloads
 
--- how far each workload is from standing in a relation to a limit
-abbrev pub offLimit : ℕ → ℕ → Pair → Pair
-offLimit relation limit workloads = each (λ x. distance relation x limit) workloads
-
 -- a sum of which two terms change
 abbrev pub shift : ℕ → Pair → Pair → ℕ
 shift sum before after = sum + (after .old + after .new) - (before .old + before .new)
@@ -47,32 +36,9 @@ figuresAfter S W F c =
       excess = shift (F .excess) (lessOne (c .before .components)) (lessOne (c .after .components));
       border = swing (F .border) (c .border);
       deviation = shift (F .deviation) (offBalance S W (c .before .workloads)) (offBalance S W (c .after .workloads));
+      bounded = shift (F .bounded) (c .before .prices) (c .after .prices);
       dwell = swing (F .dwell) (c .dwell);
     }
-
--- a constraint's gauge after the change
-unfoldable pub gaugeAfter : ℕ → Constraint → Change → ℕ
-gaugeAfter gauge k c =
-    cond (eqb (k .kind) 4)
-    (shift gauge (offLimit (k .relation) (k .limit) (c .before .workloads)) (offLimit (k .relation) (k .limit) (c .after .workloads)))
-    0
-
--- that of constraint i, from 0, of the flat list
-abbrev pub gaugeAfterAt : List ℕ → List ℕ → Change → ℕ → ℕ
-gaugeAfterAt gauges constraints c i = gaugeAfter (getD gauges i 0) (constraintAt constraints i) c
-
--- the gauges after the change, of the first n constraints of the flat list
-unfoldable pub gaugesAfter : List ℕ → List ℕ → ℕ → Change → List ℕ
-gaugesAfter gauges constraints n c = listOf n (gaugeAfterAt gauges constraints c)
-
--- the weight times the violation of constraint i after the change, by the figures after it and the gauges before it
-abbrev pub weightedAfter : Figures → List ℕ → List ℕ → Change → ℕ → ℕ
-weightedAfter F gauges constraints c i =
-    constraintAt constraints i .weight * violationBy F (gaugeAfterAt gauges constraints c i) (constraintAt constraints i)
-
--- the total after the change, of the first n constraints of the flat list
-unfoldable pub totalAfter : Figures → List ℕ → List ℕ → ℕ → Change → ℕ
-totalAfter F gauges constraints n c = sum (from 0 n) (weightedAfter F gauges constraints c) + F .dwell
 
 -- the two sectors the other way round
 abbrev pub turnedRound : Sides → Sides
@@ -80,6 +46,7 @@ turnedRound s =
     record {
       components = record { old = s .components .new; new = s .components .old };
       workloads = record { old = s .workloads .new; new = s .workloads .old };
+      prices = record { old = s .prices .new; new = s .prices .old };
     }
 
 -- two swings in one

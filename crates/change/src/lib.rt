@@ -1,16 +1,11 @@
-// What changes between two colourings: the two sectors that it concerns, and by them the figures, the gauges and the total after it.
+// What changes between two colourings: the two sectors that it concerns, and by them the figures after it.
 ghost use mathlib.Core.Path.{_≡_};
-ghost use Prim.Native.Nat.{_≤_, _<_};
-ghost use Rattle.meaning.specs.Plan.{mostSectors, mostLimit};
-ghost use Rattle.judge.specs.Figures.{constraintCount, unweighted};
+ghost use Prim.Native.Nat.{_≤_};
+ghost use Rattle.meaning.specs.Plan.{mostSectors};
 ghost use Rattle.meaning.specs.Bounds.{mostLoad};
-ghost use Rattle.change.specs.Shift.{lessOne, offBalance, offLimit, shift, swing, figuresAfter, gaugeAfter, gaugesAfter, weightedAfter, totalAfter, turnedRound, together, inTurn};
-ghost use Rattle.change.specs.Small.{AtMost, Fits, Swings, Shifting, GaugeShifting, GaugesShifting, Totalling, Summable, Addable};
+ghost use Rattle.change.specs.Shift.{lessOne, offBalance, shift, swing, figuresAfter, turnedRound, together, inTurn};
+ghost use Rattle.change.specs.Small.{AtMost, Fits, Swings, Shifting, Summable, Addable};
 use judge::Figures;
-use judge::verdicts::violation;
-use terms::Relation;
-use terms::limits;
-use terms::relation_of;
 
 // Of the two sectors that a change concerns, the one that a region leaves and the one that it comes to, a number each.
 pub struct Pair {
@@ -18,10 +13,11 @@ pub struct Pair {
     pub new: u64,
 }
 
-// The two sectors' components and workloads.
+// The two sectors' components and workloads, and what they pay for the constraints of kind 4.
 pub struct Sides {
     pub components: Pair,
     pub workloads: Pair,
+    pub prices: Pair,
 }
 
 // What a figure gains and loses.
@@ -76,18 +72,6 @@ fn off_balance(sectors: u64, whole: u64, workloads: Pair) -> Pair
     }
 }
 
-// How far each workload is from standing in the relation to the limit.
-fn off_limit(relation: Relation, limit: u64, workloads: Pair) -> Pair
-    requires { ⌜ limit ≤ mostLimit ⌝ }
-    requires { ⌜ AtMost mostLoad workloads ⌝ }
-    ensures { λ r. ⌜ r ≡ offLimit (relation .code) limit workloads ⌝ }
-{
-    Pair {
-        old: relation.distance(workloads.old, limit),
-        new: relation.distance(workloads.new, limit),
-    }
-}
-
 // The figures after the change.
 pub fn figures_after(sectors: u64, whole: u64, figures: Figures, change: Change) -> Figures
     requires { ⌜ Shifting sectors whole figures change ⌝ }
@@ -110,79 +94,9 @@ pub fn figures_after(sectors: u64, whole: u64, figures: Figures, change: Change)
             off_balance(sectors, whole, workloads),
             off_balance(sectors, whole, workloads_after),
         ),
+        bounded: shifted(figures.bounded, change.before.prices, change.after.prices),
         dwell: swung(figures.dwell, change.dwell),
     }
-}
-
-// A constraint's gauge after the change.
-fn gauge_after(gauge: u64, kind: u64, relation: u64, limit: u64, change: Change) -> u64
-    requires { ⌜ GaugeShifting gauge (unweighted kind relation limit) change ⌝ }
-    ensures { λ r. ⌜ r ≡ gaugeAfter gauge (unweighted kind relation limit) change ⌝ }
-{
-    if kind == limits::BOUNDED {
-        let relation = relation_of(relation);
-        let workloads = change.before.workloads;
-        let workloads_after = change.after.workloads;
-        return shifted(
-            gauge,
-            off_limit(relation, limit, workloads),
-            off_limit(relation, limit, workloads_after),
-        );
-    }
-    0
-}
-
-// Puts down each constraint's gauge after the change in place of that before it.
-pub fn shift_gauges(constraints: &[u64], gauges: &mut [u64], change: Change)
-    requires { ⌜ GaugesShifting (now gauges) (now constraints) change ⌝ }
-    ensures { λ _. ⌜ now (gauges .exit) ≡ gaugesAfter (now (gauges .entry)) (now (constraints .entry)) (constraintCount (now (constraints .entry))) change ⌝ }
-{
-    let mut k = 0;
-    while k < gauges.len() {
-        let at = limits::CONSTRAINT_LENGTH * k;
-        gauges[k] = gauge_after(
-            gauges[k],
-            constraints[at],
-            constraints[at + 1],
-            constraints[at + 2],
-            change,
-        );
-        k += 1;
-    }
-}
-
-// The weight times the violation of constraint k, from 0, after the change.
-fn weighted_after(
-    constraints: &[u64],
-    figures: Figures,
-    gauges: &[u64],
-    change: Change,
-    k: usize,
-) -> u64
-    requires { ⌜ Totalling figures (now gauges) (now constraints) change ⌝ }
-    requires { ⌜ k < constraintCount (now constraints) ⌝ }
-    ensures { λ r. ⌜ r ≡ weightedAfter figures (now (gauges .entry)) (now (constraints .entry)) change k ⌝ }
-{
-    let at = limits::CONSTRAINT_LENGTH * k;
-    let kind = constraints[at];
-    let relation = constraints[at + 1];
-    let limit = constraints[at + 2];
-    let gauge = gauge_after(gauges[k], kind, relation, limit, change);
-    constraints[at + 3] * violation(figures, gauge, kind, relation, limit)
-}
-
-// The total after the change, by the figures after it and the gauges before it.
-pub fn total_after(constraints: &[u64], figures: Figures, gauges: &[u64], change: Change) -> u64
-    requires { ⌜ Totalling figures (now gauges) (now constraints) change ⌝ }
-    ensures { λ r. ⌜ r ≡ totalAfter figures (now (gauges .entry)) (now (constraints .entry)) (constraintCount (now (constraints .entry))) change ⌝ }
-{
-    let mut total = 0;
-    let mut k = 0;
-    while k < gauges.len() {
-        total += weighted_after(constraints, figures, gauges, change, k);
-        k += 1;
-    }
-    total + figures.dwell
 }
 
 // The two sectors the other way round.
@@ -197,9 +111,14 @@ pub fn turned_round(sides: Sides) -> Sides
         old: sides.workloads.new,
         new: sides.workloads.old,
     };
+    let prices = Pair {
+        old: sides.prices.new,
+        new: sides.prices.old,
+    };
     Sides {
         components,
         workloads,
+        prices,
     }
 }
 

@@ -34,13 +34,17 @@ shifted-requires-3 c κs =
     let pre = c .before .before .before .before .before .before .before .before .before .before .before .pre in
     rw (c .before .off-balance .ensures, c .off-balance2 .ensures) (pre .deviation)
 
+shifted-requires-4 : tie.Need-shifted-requires-4
+shifted-requires-4 c κs = search needs
+
 swung-requires-2 : tie.Need-swung-requires-2
 swung-requires-2 c κs = search needs
 
 returns : tie.Need-returns
 unfolding figuresAfter
 returns c =
-    let swung = c .before .before .before .before in
+    let deviation = c .before .before in
+    let swung = deviation .before .before .before in
     let excess = swung .before in
     rw (
       excess .before .before .before .shifted .ensures,
@@ -48,9 +52,10 @@ returns c =
       excess .before .before .less-one .ensures,
       excess .before .less-one2 .ensures,
       swung .swung .ensures,
-      c .before .shifted3 .ensures,
-      c .before .before .before .off-balance .ensures,
-      c .before .before .off-balance2 .ensures,
+      deviation .shifted3 .ensures,
+      deviation .before .before .off-balance .ensures,
+      deviation .before .off-balance2 .ensures,
+      c .before .shifted4 .ensures,
       c .swung2 .ensures,
     )
 
@@ -66,5 +71,6 @@ figures-after-spec =
     off-balance-requires
     off-balance-requires-2
     shifted-requires-3
+    shifted-requires-4
     swung-requires-2
     returns)
