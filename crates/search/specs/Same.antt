@@ -4,12 +4,13 @@ use Prim.Native.Nat.{ℕ, _-_, _*_, _/_, _≤_, _<_, _^_}
 use native.Mathlib.Omega.{arith}
 use mathlib.Core.Path.{_≡_, refl}
 use mathlib.Core.Logic.{_≢_}
-use mathlib.Core.Bool.{Bool, true, false, cond}
+use mathlib.Core.Bool.{Bool, true, false, cond, not}
 use mathlib.Core.List.{List}
 use borrow.Author.Tests.{eqb-true, eqb-false}
 use lib.Bits.{bitXor, and-le-l, and-le-r, xor-lt, xor-self, xor-add-and}
 use lib.Dec.{eqb}
 use Rattle.lists.specs.Sums.{In, at, bit}
+use Rattle.lists.specs.Tests.{cond-le}
 use Rattle.meaning.specs.Plan.{mostSectors}
 
 -- what the regions of a colouring show may be compared with sectors c and d
@@ -47,3 +48,16 @@ times-bit n false e = rw e (omega arith)
 pub times-fits : (n : ℕ) (t : Bool) {r : ℕ} → r ≡ bit t → n < 2 ^ 64 → n * r < 2 ^ 64
 times-fits n true e h = rw e (omega arith)
 times-fits n false e h = rw e (omega arith)
+
+module _ (n : ℕ) (t : Bool) {r : ℕ} (e : r ≡ cond t n 0) where
+  -- n or 0 is at most n
+  pub part-le : r ≤ n
+  part-le = rw e (cond-le t (omega arith) (omega arith))
+
+  -- n less it is 0 or n
+  pub part-left : n - r ≡ cond (not t) n 0
+  part-left = rw e (go t)
+    where
+      go : (t : Bool) → n - cond t n 0 ≡ cond (not t) n 0
+      go true = omega arith
+      go false = omega arith

@@ -285,9 +285,11 @@ fn survey(
 
 // The area where a region shows another sector, and otherwise 0.
 fn part_elsewhere(shown: u64, sector: u64, area: u64) -> u64
+    requires { ⌜ shown < 256 ⌝ }
+    requires { ⌜ sector < 256 ⌝ }
     ensures { λ r. ⌜ r ≡ cond (not (eqb shown sector)) area 0 ⌝ }
 {
-    if shown == sector { 0 } else { area }
+    area - part(shown, sector, area)
 }
 
 // Adds up the areas of a region's edges that lead to another sector than its own.
@@ -301,6 +303,7 @@ pub fn border_at(
     own: u64,
 ) -> u64
     requires { ⌜ Weighable (length (now start) - 1) (edgesOf (now edges)) (now start) (now near) (now areas) (now colouring) region ⌝ }
+    requires { ⌜ Comparable (length (now start) - 1) (now colouring) own own ⌝ }
     ensures { λ r. ⌜ r ≡ areaOf (edgesOf (now (edges .entry))) (leadsTo (λ w. not (eqb (at (now (colouring .entry)) w) own)) region) ⌝ }
 {
     let last = start[region] as usize;

@@ -2,7 +2,6 @@
 use Prim.Native.Nat.{_-_}
 use native.Mathlib.Omega.{arith}
 use mathlib.Core.Bool.{not}
-use borrow.Author.Needs.{needs}
 use lib.Dec.{eqb}
 use lib.ListN.{length, getD}
 use Rattle.lists.specs.Sums.{at}
@@ -18,23 +17,27 @@ Inv-loop edges start near areas colouring region own last j₀ sum₀ j sum =
 abbrev μ-loop : tie.MeasureT-loop
 μ-loop edges start near areas colouring region own last j₀ sum₀ j sum = getD start region 0 - j
 
+-- from inside the loop to where all began
+abbrev began : tie.In-loop Inv-loop μ-loop → tie.Start Inv-loop μ-loop
+began c = c .before .before .before .before .before .before .before .before .before
+
 mul-last : tie.Need-mul-last Inv-loop μ-loop
-mul-last c = omega (arith, weighable-row (c .before .before .before .before .before .pre))
+mul-last c = omega (arith, weighable-row (c .before .before .before .before .before .pre .0))
 
 shared-slice-read-last : tie.Need-shared-slice-read-last Inv-loop μ-loop
-shared-slice-read-last c = omega (arith, weighable-row (c .before .before .before .before .before .before .pre))
+shared-slice-read-last c = omega (arith, weighable-row (c .before .before .before .before .before .before .pre .0))
 
 sub-j : tie.Need-sub-j Inv-loop μ-loop
-sub-j c = omega (arith, weighable-row (c .before .before .before .before .before .before .pre))
+sub-j c = omega (arith, weighable-row (c .before .before .before .before .before .before .pre .0))
 
 mul-j : tie.Need-mul-j Inv-loop μ-loop
-mul-j c = omega (arith, weighable-row (c .before .before .before .before .before .before .pre))
+mul-j c = omega (arith, weighable-row (c .before .before .before .before .before .before .pre .0))
 
 shared-slice-read-j : tie.Need-shared-slice-read-j Inv-loop μ-loop
-shared-slice-read-j c = omega (arith, weighable-row (c .before .before .before .before .before .before .before .pre))
+shared-slice-read-j c = omega (arith, weighable-row (c .before .before .before .before .before .before .before .pre .0))
 
 loop-holds : tie.Need-loop-holds Inv-loop μ-loop
-loop-holds c = weighing-start (c .before .before .before .before .before .before .before .pre)
+loop-holds c = weighing-start (c .before .before .before .before .before .before .before .pre .0)
 
 mul-z : tie.Need-mul-z Inv-loop μ-loop
 mul-z c = omega (arith, weighable-row (c .before .loop .inv .given))
@@ -58,7 +61,10 @@ shared-slice-read-shown : tie.Need-shared-slice-read-shown Inv-loop μ-loop
 shared-slice-read-shown c = omega (arith, weighing-in (c .before .before .before .before .loop .inv) (c .before .before .before .loop-test .taken), c .before .before .before .before .loop .inv .given .size)
 
 part-elsewhere-requires : tie.Need-part-elsewhere-requires Inv-loop μ-loop
-part-elsewhere-requires c κs = search needs
+part-elsewhere-requires c κs =
+    let l = c .before .before .before in
+    let g = began l .pre .1 in
+    (omega (arith, g .shown _ (weighing-in (l .before .loop .inv) (l .loop-test .taken))), omega (arith, g .one))
 
 add-sum : tie.Need-add-sum Inv-loop μ-loop
 add-sum c =
