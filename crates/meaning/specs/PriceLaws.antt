@@ -1,12 +1,11 @@
--- What the constraints of kind 5 add to the total and to a region's violation is the price of the flights; how a recolouring changes it, and how large it gets.
+-- What the constraints of the kinds 4 and 5 add to the total and to a region's violation: the prices of the sectors and of the flights; how a recolouring changes it, and how large it gets.
 -- Assumes nothing.
 use Prim.Native.Nat.{ℕ, _+_, _-_, _*_, _≤_}
-use native.Mathlib.Nat.{mul-zero, mul-le-mul, le-trans}
+use native.Mathlib.Nat.{mul-le-mul, le-trans}
 use native.Mathlib.Omega.{arith}
 use mathlib.Core.Path.{_≡_, refl, sym, _∙_}
 use mathlib.Core.List.{List, []}
 use mathlib.Core.Bool.{Bool, true, false, cond, _||_}
-use borrow.Author.Tests.{eqb-true}
 use lib.Dec.{eqb}
 use lib.ListN.{length}
 use Rattle.lists.specs.Sums.{In, at, sum, Every}
@@ -21,7 +20,6 @@ use Rattle.meaning.specs.Stretches.{stretches, dwellOf, visits}
 use Rattle.meaning.specs.StretchLaws.{stretches-elsewhere, stretches-recolour}
 use Rattle.meaning.specs.Kinds.{ncc, load, loads, offBalance, bounded, overStretches, offDwell, dwelling, violation, total, borderOf, dwellingOf, partOf, regionViolation}
 use Rattle.meaning.specs.Moves.{recolour}
-use Rattle.meaning.specs.Holds.{by-kind-5}
 use Rattle.meaning.specs.Bounds.{mostOff, mostDistance, flight-bound, load-bound}
 use Rattle.meaning.specs.Prices.{shared, limited, timed, weighted, weightOf, price, sectorPrice, prices, limitTotal, mostSectorPrice, mostLimitTotal, flightPrice, flightsPrice, visitorsPrice, dwellTotal, mostDwellTotal}
 use Rattle.meaning.specs.Weighted.{kinds-limits, kinds-few, kinds-sum, kind-sum, weighted-all, weighted-add, weighted-sum, weighted-cond, shared-sum, kinds-apart}
@@ -86,7 +84,7 @@ module _ (P : Plan) (col : List ℕ) where
   dwell-total = timed-price true 0
 
   -- what kind 5 adds to a region's violation is the price of its visitors, by their stretches that visit it
-  pub part-total : (v : ℕ) → weighted (P .constraints) (λ k. cond (eqb (k .kind) 5) (dwellingOf P col v k) 0) ≡ visitorsPrice (timed (P .constraints)) col false v (P .flights)
+  part-total : (v : ℕ) → weighted (P .constraints) (λ k. cond (eqb (k .kind) 5) (dwellingOf P col v k) 0) ≡ visitorsPrice (timed (P .constraints)) col false v (P .flights)
   unfolding dwellingOf visitorsPrice
   part-total v = timed-price false v ∙ sum-all (P .flights) _ _ (elsewhere-price (timed (P .constraints)) col v)
 
@@ -135,26 +133,6 @@ module _ (P : Plan) (col : List ℕ) where
         ≡ weightOf 1 ks * (ncc P col c - 1) + weightOf 2 ks * borderOf P col v + weightOf 3 ks * offBalance P (load P col c)
     unfolding partOf
     shared-parts c ks = sym (kinds-sum 1 3 ks (partOf P col v c)) ∙ shared-sum ks _ _ _ _ _
-
--- ---- kind 5 apart from all others
-
--- the constraints of kind 5, and the others
-weighted-parts : (ks : List Constraint) (f g : Constraint → ℕ) → ((k : Constraint) → k .kind ≡ 5 → f k ≡ g k)
-    → weighted ks f ≡ weighted ks (λ k. cond (eqb (k .kind) 5) 0 (f k)) + weighted ks (λ k. cond (eqb (k .kind) 5) (g k) 0)
-weighted-parts ks f g h = sum-all ks _ _ (λ k. go k (eqb (k .kind) 5) refl) ∙ sum-add ks _ _
-  where
-    go : (k : Constraint) (t : Bool) → eqb (k .kind) 5 ≡ t → k .weight * f k ≡ k .weight * cond t 0 (f k) + k .weight * cond t (g k) 0
-    go k true e = rw (h k (eqb-true (k .kind) 5 e)) (omega (arith, mul-zero (k .weight)))
-    go k false e = omega (arith, mul-zero (k .weight))
-
-module _ (P : Plan) (col : List ℕ) where
-  -- a region's violation: what the other kinds add, and what kind 5 adds
-  pub region-halves : (v : ℕ)
-      → regionViolation P col v
-      ≡ weighted (P .constraints) (λ k. cond (eqb (k .kind) 5) 0 (partOf P col v (at col v) k)) + visitorsPrice (timed (P .constraints)) col false v (P .flights)
-  unfolding regionViolation partOf
-  region-halves v =
-      omega (arith, weighted-parts (P .constraints) (partOf P col v (at col v)) (dwellingOf P col v) (λ k e. by-kind-5 _ _ _ _ _ e), part-total P col v)
 
 -- ---- how a recolouring changes it
 
