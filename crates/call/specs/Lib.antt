@@ -1,3 +1,4 @@
 pub mod Promise
 pub mod Arrays
+pub mod Concluding
 pub mod Promised

@@ -1,22 +1,34 @@
 // The call: refusal, first judgement, the moves in turn, the verdicts.
 ghost use mathlib.Core.Path.{_≡_};
-ghost use lib.ListN.{length};
+ghost use mathlib.Core.List.{_++_};
+ghost use Prim.Native.Nat.{_*_, _≤_};
+ghost use lib.ListN.{length, drop};
+ghost use Rattle.meaning.specs.Moves.{verdictLength};
+ghost use Rattle.judge.specs.Figures.{constraintCount};
 ghost use Rattle.refusals.specs.Valid.{Valid};
 ghost use Rattle.call.specs.Promise.{Input, Promise, input, given, planIn, left, ran};
+ghost use Rattle.call.specs.Concluding.{Concluding, concluded};
 ghost use Rattle.engine.specs.State.{Setting, Opening};
+ghost use Rattle.engine.specs.Sorted.{Sorted};
 ghost use Rattle.engine.specs.Flown.{Priced, Flown};
 use flights::gauging::gauge_dwells;
+use judge::Figures;
+use judge::measures::gauge_all;
 use judge::verdicts::put_verdicts;
 use kinds::pick;
 use lists::sum_of;
 use neighbours::gather;
 use refusals::call_refusal;
+use terms::limits::BALANCED;
+use terms::limits::BOUNDED;
+use terms::limits::CONNECTED;
 use terms::limits::CONSTRAINT_LENGTH;
 use terms::limits::DWELL;
 use terms::limits::MOST_CONSTRAINTS;
 use terms::limits::MOST_EDGES;
 use terms::limits::MOST_FLIGHTS;
 use terms::limits::MOST_REGIONS;
+use terms::limits::MOST_SECTORS;
 use terms::limits::MOST_VISITS;
 use terms::limits::VISIT_LENGTH;
 use visitors::gather_visitors;
@@ -30,6 +42,27 @@ pub struct Answer {
     pub last: u64,
 }
 
+// Puts down the verdicts on a colouring, by its figures and the workloads of its sectors; what lies beyond stays.
+fn conclude(
+    constraints: &[u64],
+    counts: &[u64],
+    visits: &[u64],
+    loads: &[u64],
+    colouring: &[u64],
+    figures: Figures,
+    verdicts: &mut [u64],
+)
+    requires { ⌜ Concluding (now constraints) (now counts) (now visits) (now loads) (now colouring) figures ⌝ }
+    requires { ⌜ verdictLength * constraintCount (now constraints) ≤ length (now verdicts) ⌝ }
+    ensures { λ _. ⌜ now (verdicts .exit) ≡ concluded (now (constraints .entry)) (now (counts .entry)) (now (visits .entry)) (now (loads .entry)) (now (colouring .entry)) figures ++ drop (verdictLength * constraintCount (now (constraints .entry))) (now (verdicts .entry)) ⌝ }
+{
+    let mut gauges = [0u64; MOST_CONSTRAINTS as usize];
+    let count = constraints.len() / CONSTRAINT_LENGTH;
+    gauge_all(constraints, loads, &mut gauges[..count]);
+    gauge_dwells(constraints, counts, visits, colouring, &mut gauges[..count]);
+    put_verdicts(constraints, figures, &gauges[..count], verdicts);
+}
+
 // Judges the colouring, takes all moves, and puts down the verdicts and T.
 fn judge_all(
     sectors: u64,
@@ -40,6 +73,8 @@ fn judge_all(
     counts: &[u64],
     visits: &[u64],
     constraints: &[u64],
+    shared: &[u64],
+    limited: &[u64],
     start: &[u64],
     near: &[u64],
     areas: &[u64],
@@ -52,14 +87,15 @@ fn judge_all(
     rows: &mut [i64],
     verdicts: &mut [u64],
     work: &mut [u64],
-    gauges: &mut [u64],
+    prices: &mut [u64],
     queue: &mut [u64],
 ) -> Answer
     ghost { Input }
     requires { λ i. ⌜ input (length (now workloads)) sectors (now workloads) (now outside) (now edges) (now counts) (now visits) (now constraints) (now colouring) (now moves) (now rows) (now verdicts) (now work) ≡ i ⌝ }
     requires { λ i. ⌜ Valid (given i) ⌝ }
+    requires { λ i. ⌜ Sorted (planIn i) (now shared) (now limited) ⌝ }
     requires { λ i. ⌜ Setting (planIn i) whole (now start) (now near) (now areas) (now queue) ⌝ }
-    requires { λ i. ⌜ Opening (planIn i) (now colouring) (now work) (now gauges) ⌝ }
+    requires { λ i. ⌜ Opening (planIn i) (now colouring) (now work) (now prices) ⌝ }
     requires { λ i. ⌜ Flown (planIn i) (now timed) (now counts) (now visits) (now visited) (now flights) (now firsts) ⌝ }
     ensures { λ i r. ⌜ left r (now (colouring .exit)) (now (rows .exit)) (now (verdicts .exit)) (now (work .exit)) ≡ ran i ⌝ }
 {
@@ -72,13 +108,15 @@ fn judge_all(
         counts,
         visits,
         constraints,
+        shared,
+        limited,
         start,
         near,
         areas,
         timed,
         colouring,
         work,
-        gauges,
+        prices,
         queue,
     );
     let last = turns::all_moves(
@@ -90,6 +128,8 @@ fn judge_all(
         counts,
         visits,
         constraints,
+        shared,
+        limited,
         start,
         near,
         areas,
@@ -100,15 +140,23 @@ fn judge_all(
         moves,
         colouring,
         work,
-        gauges,
+        prices,
         queue,
         rows,
         first,
     );
-    gauge_dwells(constraints, counts, visits, colouring, gauges);
     let figures = last.figures;
-    put_verdicts(constraints, figures, gauges, verdicts);
-    let at = workloads.len() + 2 * sectors as usize;
+    let counts_end = workloads.len() + sectors as usize;
+    let at = counts_end + sectors as usize;
+    conclude(
+        constraints,
+        counts,
+        visits,
+        &work[counts_end..at],
+        colouring,
+        figures,
+        verdicts,
+    );
     work[at] = figures.border;
     Answer {
         code: 0,
@@ -128,6 +176,8 @@ fn run_timed(
     counts: &[u64],
     visits: &[u64],
     constraints: &[u64],
+    shared: &[u64],
+    limited: &[u64],
     start: &[u64],
     near: &[u64],
     areas: &[u64],
@@ -137,14 +187,15 @@ fn run_timed(
     rows: &mut [i64],
     verdicts: &mut [u64],
     work: &mut [u64],
-    gauges: &mut [u64],
+    prices: &mut [u64],
     queue: &mut [u64],
 ) -> Answer
     ghost { Input }
     requires { λ i. ⌜ input (length (now workloads)) sectors (now workloads) (now outside) (now edges) (now counts) (now visits) (now constraints) (now colouring) (now moves) (now rows) (now verdicts) (now work) ≡ i ⌝ }
     requires { λ i. ⌜ Valid (given i) ⌝ }
+    requires { λ i. ⌜ Sorted (planIn i) (now shared) (now limited) ⌝ }
     requires { λ i. ⌜ Setting (planIn i) whole (now start) (now near) (now areas) (now queue) ⌝ }
-    requires { λ i. ⌜ Opening (planIn i) (now colouring) (now work) (now gauges) ⌝ }
+    requires { λ i. ⌜ Opening (planIn i) (now colouring) (now work) (now prices) ⌝ }
     requires { λ i. ⌜ Priced (planIn i) (now timed) (now counts) (now visits) ⌝ }
     ensures { λ i r. ⌜ left r (now (colouring .exit)) (now (rows .exit)) (now (verdicts .exit)) (now (work .exit)) ≡ ran i ⌝ }
 {
@@ -170,6 +221,8 @@ fn run_timed(
         counts,
         visits,
         constraints,
+        shared,
+        limited,
         start,
         near,
         areas,
@@ -182,7 +235,7 @@ fn run_timed(
         rows,
         verdicts,
         work,
-        gauges,
+        prices,
         queue,
     )
 }
@@ -212,12 +265,16 @@ fn run(
     let mut near = [0u64; 2 * MOST_EDGES as usize];
     let mut areas = [0u64; 2 * MOST_EDGES as usize];
     let mut timed = [0u64; CONSTRAINT_LENGTH * MOST_CONSTRAINTS as usize];
-    let mut gauges = [0u64; MOST_CONSTRAINTS as usize];
+    let mut shared = [0u64; CONSTRAINT_LENGTH * MOST_CONSTRAINTS as usize];
+    let mut limited = [0u64; CONSTRAINT_LENGTH * MOST_CONSTRAINTS as usize];
+    let mut prices = [0u64; MOST_SECTORS as usize];
     let mut queue = [0u64; MOST_REGIONS as usize + 1];
     let starts = regions as usize + 1;
-    let count = constraints.len() / CONSTRAINT_LENGTH;
+    let across = sectors as usize;
     gather(edges, &mut start[..starts], &mut near, &mut areas);
     let whole = sum_of(workloads);
+    let front = CONSTRAINT_LENGTH * pick(constraints, CONNECTED, BALANCED, &mut shared);
+    let middle = CONSTRAINT_LENGTH * pick(constraints, BOUNDED, BOUNDED, &mut limited);
     let picked = CONSTRAINT_LENGTH * pick(constraints, DWELL, DWELL, &mut timed);
     if picked == 0 {
         return judge_all(
@@ -229,6 +286,8 @@ fn run(
             counts,
             visits,
             constraints,
+            &shared[..front],
+            &limited[..middle],
             &start[..starts],
             &near,
             &areas,
@@ -241,7 +300,7 @@ fn run(
             rows,
             verdicts,
             work,
-            &mut gauges[..count],
+            &mut prices[..across],
             &mut queue,
         );
     }
@@ -254,6 +313,8 @@ fn run(
         counts,
         visits,
         constraints,
+        &shared[..front],
+        &limited[..middle],
         &start[..starts],
         &near,
         &areas,
@@ -263,7 +324,7 @@ fn run(
         rows,
         verdicts,
         work,
-        &mut gauges[..count],
+        &mut prices[..across],
         &mut queue,
     )
 }

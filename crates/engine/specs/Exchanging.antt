@@ -17,20 +17,20 @@ use Rattle.engine.specs.Swapping.{Swapping}
 use Rattle.engine.specs.Remade.{Remade, ready-kept, ready-remade}
 
 -- what an exchange finds
-pub record Exchanging (P : Plan) (W : ℕ) (start near areas col w gs q : List ℕ) (s : Standing) (a b : ℕ) : Type 0 where
+pub record Exchanging (P : Plan) (W : ℕ) (start near areas col w ps q : List ℕ) (s : Standing) (a b : ℕ) : Type 0 where
   pub setting : Setting P W start near areas q
-  pub ready : Ready P col w gs s
+  pub ready : Ready P col w ps s
   pub first : In (P .R) a
   pub second : In (P .R) b
 
-module _ {P : Plan} {W : ℕ} {start near areas col w gs q : List ℕ} {s : Standing} {a b : ℕ} (k : Exchanging P W start near areas col w gs q s a b) where
+module _ {P : Plan} {W : ℕ} {start near areas col w ps q : List ℕ} {s : Standing} {a b : ℕ} (k : Exchanging P W start near areas col w ps q s a b) where
   module _ (e : at col a ≡ at col b) where
     -- regions of one sector leave the total
     pub alike-total : s .total ≡ total P (swap col a b)
     alike-total = rw (exchange-alike col a b e) (ap (λ (x : Standing). x .total) (k .ready .standing))
 
     -- and all else
-    pub alike-remade : Remade P col w (swap col a b) col w gs (record { standing = s; relabelled = 0 })
+    pub alike-remade : Remade P col w (swap col a b) col w ps (record { standing = s; relabelled = 0 })
     alike-remade = rw (exchange-alike col a b e) (ready-remade (k .setting .limits) (k .ready))
 
   -- what it finds in the work memory

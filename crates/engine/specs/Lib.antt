@@ -1,5 +1,6 @@
 pub mod State
 pub mod Flown
+pub mod Sorted
 pub mod Memory
 pub mod Turning
 pub mod Swapping

@@ -1,4 +1,4 @@
--- The front of the work memory, as it is read and written: the labels of R regions, the component counts of S sectors and their workload sums.
+-- The front of the work memory, as it is read and written: the labels of R regions, the component counts of S sectors and their workload sums. What the sectors pay stands beside it.
 -- Assumes nothing.
 use Prim.Native.Nat.{ℕ, _+_, _-_, _*_, _≤_, _<_}
 use native.Mathlib.Nat.{zero-add, suc-add}
@@ -10,20 +10,24 @@ use lib.Seq.{getD-append-add, set-append-left, drop-drop, take-at, drop-at}
 use Rattle.lists.specs.Sums.{In, at}
 use Rattle.meaning.specs.Plan.{Plan, Limits, Coloured}
 use Rattle.meaning.specs.Joined.{labels}
-use Rattle.meaning.specs.Kinds.{ncc, load, counts, loads}
+use Rattle.meaning.specs.Kinds.{counts, loads}
 use Rattle.meaning.specs.Labels.{plan-labels}
 use Rattle.meaning.specs.Components.{counts-length, counts-at, loads-length, loads-at}
+use Rattle.meaning.specs.Prices.{prices}
+use Rattle.meaning.specs.PriceLaws.{prices-length, prices-at}
 use Rattle.change.specs.declared.Pair.{Pair}
 use Rattle.change.specs.declared.Sides.{Sides}
+use Rattle.change.specs.Changed.{pairOf, sidesOf}
 use Rattle.engine.specs.State.{memory, memoryLength}
 
 -- the index of sector c's component count; that of its workload sum is S further
 abbrev pub countAt : ℕ → ℕ → ℕ
 countAt R c = R + c - 1
 
--- there is room for the front, and the two sectors are of 1..S
-pub record Placed (w : List ℕ) (R S own d : ℕ) : Type 0 where
+-- there is room for the front and for a price of each sector, and the two sectors are of 1..S
+pub record Placed (w ps : List ℕ) (R S own d : ℕ) : Type 0 where
   pub room : R + 2 * S ≤ length w
+  pub prices : S ≤ length ps
   pub old : In S own
   pub new : In S d
 
@@ -31,10 +35,10 @@ pub record Placed (w : List ℕ) (R S own d : ℕ) : Type 0 where
 abbrev pub pairIn : List ℕ → ℕ → ℕ → Pair
 pairIn w i j = record { old = getD w i 0; new = getD w j 0 }
 
--- the components and the workloads of two sectors
-abbrev pub sidesIn : List ℕ → ℕ → ℕ → ℕ → ℕ → Sides
-sidesIn w R S own d =
-    record { components = pairIn w (countAt R own) (countAt R d); workloads = pairIn w (countAt R own + S) (countAt R d + S) }
+-- the components, the workloads and the prices of two sectors
+abbrev pub sidesIn : List ℕ → List ℕ → ℕ → ℕ → ℕ → ℕ → Sides
+sidesIn w ps R S own d =
+    record { components = pairIn w (countAt R own) (countAt R d); workloads = pairIn w (countAt R own + S) (countAt R d + S); prices = pairIn ps (own - 1) (d - 1) }
 
 -- two numbers put down
 abbrev pub pairPut : List ℕ → ℕ → ℕ → Pair → List ℕ
@@ -88,8 +92,8 @@ module _ {R S : ℕ} (ls cs xs r : List ℕ) (hl : length ls ≡ R) (hc : length
 
   module _ {own d : ℕ} (i : In S own) (j : In S d) where
     -- what two sectors have is read
-    sides-in : sidesIn (ls ++ cs ++ xs ++ r) R S own d ≡ record { components = record { old = at cs own; new = at cs d }; workloads = record { old = at xs own; new = at xs d } }
-    sides-in = rw (count-in i, count-in j, load-in i, load-in j)
+    sides-in : (ps : List ℕ) → sidesIn (ls ++ cs ++ xs ++ r) ps R S own d ≡ record { components = pairOf (at cs) own d; workloads = pairOf (at xs) own d; prices = pairOf (at ps) own d }
+    sides-in ps = rw (count-in i, count-in j, load-in i, load-in j)
 
     -- what two sectors have is put down
     pub sides-put : (s : Sides) → sidesPut (ls ++ cs ++ xs ++ r) R S own d s ≡ ls ++ pairPut cs (own - 1) (d - 1) (s .components) ++ pairPut xs (own - 1) (d - 1) (s .workloads) ++ r
@@ -100,6 +104,11 @@ module _ {R S : ℕ} (ls cs xs r : List ℕ) (hl : length ls ≡ R) (hc : length
         (second-put (ls ++ cs′) xs r (own - 1) (d - 1) (s .workloads) (omega (arith, length-append ls cs′)) (omega (arith, length-append ls cs′)) (omega arith) (omega arith))
 
 -- ---- the front of the work memory of a plan
+
+-- where the prices are those of a colouring, there is one of each sector
+pub plan-placed : (P : Plan) (col : List ℕ) {w ps : List ℕ} {own d : ℕ} → memoryLength P ≤ length w → ps ≡ prices P col → In (P .S) own → In (P .S) d → Placed w ps (P .R) (P .S) own d
+plan-placed P col room paid old new =
+    record { room = room; prices = omega (arith, ap length paid ∙ prices-length P col); old = old; new = new }
 
 -- the plan is within its limits, each region has a sector, and the work memory starts with what is kept of the colouring
 pub record Kept (P : Plan) (col w : List ℕ) : Type 0 where
@@ -158,13 +167,13 @@ module _ {P : Plan} {col w : List ℕ} (k : Kept P col w) where
       ∙ take-at (loads P col) _ (P .S) (loads-length P col)
 
   module _ {own d : ℕ} (i : In (P .S) own) (j : In (P .S) d) where
-    -- the components and the workloads of two sectors are read
-    pub kept-sides : sidesIn w (P .R) (P .S) own d ≡ record { components = record { old = ncc P col own; new = ncc P col d }; workloads = record { old = load P col own; new = load P col d } }
+    -- the components and the workloads of two sectors are read, and what they pay
+    pub kept-sides : {ps : List ℕ} → ps ≡ prices P col → sidesIn w ps (P .R) (P .S) own d ≡ sidesOf P col own d
     unfolding memory
-    kept-sides =
-        ap (λ (m : List ℕ). sidesIn m (P .R) (P .S) own d) kept-front
-        ∙ sides-in (labels (P .edges) col) (counts P col) (loads P col) (drop (memoryLength P) w) (labels-length (k .limits) (k .coloured)) (counts-length P col) (loads-length P col) i j
-        ∙ rw (counts-at P col own i, counts-at P col d j, loads-at P col own i, loads-at P col d j)
+    kept-sides {ps} paid =
+        ap (λ (m : List ℕ). sidesIn m ps (P .R) (P .S) own d) kept-front
+        ∙ sides-in (labels (P .edges) col) (counts P col) (loads P col) (drop (memoryLength P) w) (labels-length (k .limits) (k .coloured)) (counts-length P col) (loads-length P col) i j ps
+        ∙ rw (paid, counts-at P col own i, counts-at P col d j, loads-at P col own i, loads-at P col d j, prices-at P col own i, prices-at P col d j)
 
   module _ (ls : List ℕ) (h : length ls ≡ P .R) where
     -- other labels are put down: the others stand behind them

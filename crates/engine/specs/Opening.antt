@@ -1,28 +1,31 @@
 -- How the front of the work memory is laid out part by part, and how a colouring is judged by it.
 -- Assumes nothing.
-use Prim.Native.Nat.{ℕ, _+_, _-_, _*_, _≤_, _<_}
+use Prim.Native.Nat.{ℕ, _+_, _-_, _*_, _≤_, _<_, _^_}
 use native.Mathlib.Omega.{arith}
 use mathlib.Core.Path.{_≡_, sym, ap, _∙_}
-use mathlib.Core.List.{List, _++_, append-assoc}
+use mathlib.Core.List.{List, _++_, map, append-assoc}
 use lib.ListN.{length, take, drop, length-append, length-drop}
 use lib.Seq.{length-take-le, drop-drop, take-at, drop-at}
 use borrow.Rule.Slice.PartMut.{putMid, mid-len, same-len-mid}
-use Rattle.lists.specs.Sums.{at, bit, sum, Every}
-use Rattle.lists.specs.ListLaws.{length-listOf}
+use Rattle.lists.specs.Sums.{at, bit, sum}
 use Rattle.lists.specs.Few.{Few}
-use Rattle.meaning.specs.Plan.{Plan, Limits, Coloured, ConstraintLimits, constraintAt, constraintsOf, mostRegions, mostSectors, mostArea}
+use Rattle.meaning.specs.Plan.{Plan, Limits, Coloured, constraintsOf, mostRegions, mostSectors, mostArea}
 use Rattle.meaning.specs.Joined.{labels, leads}
 use Rattle.meaning.specs.Kinds.{whole, crosses, areaOf, border, counts, loads, total}
+use Rattle.meaning.specs.Components.{loads-length}
 use Rattle.meaning.specs.Bounds.{mostLoad}
-use Rattle.meaning.specs.Prices.{dwellTotal}
+use Rattle.meaning.specs.Prices.{price, prices, limitTotal, dwellTotal}
+use Rattle.meaning.specs.PriceLaws.{prices-total, limit-total-bound}
+use Rattle.kinds.specs.Constraints.{Paying}
 use Rattle.neighbours.specs.Net.{Net, table-net}
 use Rattle.judge.specs.declared.Figures.{Figures}
-use Rattle.judge.specs.Figures.{figuresOf, figuresBy, gauges, gaugesBy, constraintCount, totalBy, tally}
-use Rattle.judge.specs.Small.{SmallEdges, SmallTallies, Small, outside-small, edges-small, tallies-small, loads-small, plan-small}
+use Rattle.judge.specs.Figures.{figuresOf, figuresBy, totalBy, tally}
+use Rattle.judge.specs.Small.{SmallEdges, SmallTallies, SmallFigures, outside-small, edges-small, loads-small, tallies-small, figures-small}
 use Rattle.judge.specs.Tallies.{Tallying, plan-tallying, counts-by, loads-by}
-use Rattle.judge.specs.FigureLaws.{border-by, figures-by, gauges-by, total-by}
+use Rattle.judge.specs.FigureLaws.{border-by, figures-by, prices-by, total-by}
 use Rattle.relabel.specs.Labelling.{Labellable}
 use Rattle.engine.specs.State.{memory, memoryLength, Setting, Opening, Opened}
+use Rattle.engine.specs.Sorted.{Sorted, sorted-paying}
 use Rattle.engine.specs.Memory.{Kept, both-length, memory-kept, kept-counts, kept-loads}
 
 -- ---- three lists put down in a row
@@ -150,7 +153,16 @@ module _ {P : Plan} {start near col w q : List ℕ} (b : Blank P start near col 
 
 -- ---- judging
 
-module _ {P : Plan} {W : ℕ} {start near areas col w gs q : List ℕ} (s : Setting P W start near areas q) (o : Opening P col w gs) where
+module _ {P : Plan} {col w : List ℕ} (k : Kept P col w) where
+  -- the component counts are read
+  counts-read : firstPart (P .R) (P .S) w ≡ counts P col
+  counts-read = let e : P .R + P .S - P .R ≡ P .S = omega arith in rw e (kept-counts k)
+
+  -- and the workload sums
+  pub loads-read : secondPart (P .R) (P .S) w ≡ loads P col
+  loads-read = let e : P .R + P .S + P .S - (P .R + P .S) ≡ P .S = omega arith in rw e (kept-loads k)
+
+module _ {P : Plan} {W : ℕ} {start near areas col w ps q : List ℕ} (s : Setting P W start near areas q) (o : Opening P col w ps) where
   -- the front can be laid out
   pub opening-blank : Blank P start near col w q
   opening-blank =
@@ -170,44 +182,44 @@ module _ {P : Plan} {W : ℕ} {start near areas col w gs q : List ℕ} (s : Sett
     kept : Kept P col w′
     kept = memory-kept (s .limits) (o .coloured) w m (o .room)
 
-    -- the component counts are read
-    counts-read : firstPart (P .R) (P .S) w′ ≡ counts P col
-    counts-read = let e : P .R + P .S - P .R ≡ P .S = omega arith in rw e (kept-counts kept)
-
-    -- and the workload sums
-    loads-read : secondPart (P .R) (P .S) w′ ≡ loads P col
-    loads-read = let e : P .R + P .S + P .S - (P .R + P .S) ≡ P .S = omega arith in rw e (kept-loads kept)
-
-    -- they are small
+    -- what each sector has is small
     pub opening-tallies : SmallTallies (P .S) W (firstPart (P .R) (P .S) w′) (secondPart (P .R) (P .S) w′)
-    opening-tallies = rw (counts-read, loads-read, s .whole) (tallies-small P (s .limits) col)
+    opening-tallies = rw (counts-read kept, loads-read kept, s .whole) (tallies-small P (s .limits) col)
 
-    module _ (constraints : List ℕ) (c : P .constraints ≡ constraintsOf constraints) where
-      -- the gauges can be made
-      pub opening-gauging : Few mostSectors mostLoad (secondPart (P .R) (P .S) w′) × (Every ConstraintLimits (constraintsOf constraints) × (length gs ≡ constraintCount constraints))
-      unfolding constraintsOf
-      opening-gauging =
-          (rw loads-read (loads-small P (s .limits) col), (rw c at (s .limits .constraint), o .gauges ∙ ap length c ∙ length-listOf (constraintCount constraints) (constraintAt constraints)))
+    module _ {sh li : List ℕ} (r : Sorted P sh li) where
+      -- what each sector pays can be put down
+      pub opening-paying : Paying li × (Few mostSectors mostLoad (secondPart (P .R) (P .S) w′) × (length ps ≡ length (secondPart (P .R) (P .S) w′)))
+      opening-paying =
+          (sorted-paying (s .limits) 4 4 (r .limited), rw (loads-read kept) (loads-small P (s .limits) col, o .prices ∙ sym (loads-length P col)))
 
-      module _ {col′ : List ℕ} (k : col′ ≡ col) {t d : ℕ} (e : t ≡ areaOf (P .edges) (crosses col′) + sum (P .outside) (λ a. a)) (h : d ≡ dwellTotal P col′) {F : Figures} (f : F ≡ figuresBy (P .S) W (firstPart (P .R) (P .S) w′) (secondPart (P .R) (P .S) w′) t d) {gs′ : List ℕ} (g : gs′ ≡ gaugesBy (secondPart (P .R) (P .S) w′) constraints) where
-        -- the figures are those of the colouring
-        opening-figures : F ≡ figuresOf P col
-        opening-figures = f ∙ rw (counts-read, loads-read, s .whole, opening-border k e, h, k) (figures-by P col (o .coloured))
+      module _ {ps′ : List ℕ} (p : ps′ ≡ map (price (constraintsOf li)) (secondPart (P .R) (P .S) w′)) where
+        -- it is that of the colouring
+        opening-prices : ps′ ≡ prices P col
+        opening-prices = p ∙ rw (r .limited, loads-read kept) (prices-by P col)
 
-        -- and so are the gauges
-        opening-gauges : gs′ ≡ gauges P col
-        opening-gauges = g ∙ rw loads-read (gauges-by P col constraints c)
+        -- summed it is what kind 4 adds to the total
+        opening-limit : sum ps′ (λ n. n) ≡ limitTotal P col
+        opening-limit = rw opening-prices (sym (prices-total P col))
 
-        -- the total can be made
-        pub opening-small : Small F gs′ constraints
-        opening-small = rw (opening-figures, opening-gauges) (plan-small P (s .limits) col constraints c)
+        -- which fits
+        pub opening-room : sum ps′ (λ n. n) < 2 ^ 64
+        opening-room = omega (arith, opening-limit, limit-total-bound (s .limits) col)
 
-        -- all is that of the colouring
-        pub opening-opened : {x : ℕ} → x ≡ totalBy F gs′ constraints (constraintCount constraints) → Opened P col w col′ w′ gs′ (record { figures = F; total = x })
-        opening-opened p =
-            record {
-              colouring = k;
-              work = m;
-              gauges = opening-gauges;
-              standing = rw (p, opening-figures, opening-gauges, total-by P col constraints c);
-            }
+        module _ {col′ : List ℕ} (k : col′ ≡ col) {t b d : ℕ} (e : t ≡ areaOf (P .edges) (crosses col′) + sum (P .outside) (λ a. a)) (g : b ≡ sum ps′ (λ n. n)) (h : d ≡ dwellTotal P col′) {F : Figures} (f : F ≡ figuresBy (P .S) W (firstPart (P .R) (P .S) w′) (secondPart (P .R) (P .S) w′) t b d) where
+          -- the figures are those of the colouring
+          opening-figures : F ≡ figuresOf P col
+          opening-figures = f ∙ rw (counts-read kept, loads-read kept, s .whole, opening-border k e, g, opening-limit, h, k) (figures-by P col (o .coloured))
+
+          -- the total can be made
+          pub opening-small : SmallFigures F × Paying sh
+          opening-small = (rw opening-figures (figures-small P (s .limits) col), sorted-paying (s .limits) 1 3 (r .shared))
+
+          -- all is that of the colouring
+          pub opening-opened : {x : ℕ} → x ≡ totalBy F (constraintsOf sh) → Opened P col w col′ w′ ps′ (record { figures = F; total = x })
+          opening-opened q =
+              record {
+                colouring = k;
+                work = m;
+                prices = opening-prices;
+                standing = rw (q, opening-figures, r .shared, total-by P col);
+              }

@@ -16,13 +16,13 @@ use Rattle.engine.specs.Turning.{Turning, ready-ground}
 use Rattle.engine.specs.Remade.{Remade, ready-kept, ready-remade}
 
 -- what a recolouring finds
-pub record Recolouring (P : Plan) (W : ℕ) (start near areas col w gs q : List ℕ) (s : Standing) (v d : ℕ) : Type 0 where
+pub record Recolouring (P : Plan) (W : ℕ) (start near areas col w ps q : List ℕ) (s : Standing) (v d : ℕ) : Type 0 where
   pub setting : Setting P W start near areas q
-  pub ready : Ready P col w gs s
+  pub ready : Ready P col w ps s
   pub region : In (P .R) v
   pub sector : In (P .S) d
 
-module _ {P : Plan} {W : ℕ} {start near areas col w gs q : List ℕ} {s : Standing} {v d : ℕ} (k : Recolouring P W start near areas col w gs q s v d) where
+module _ {P : Plan} {W : ℕ} {start near areas col w ps q : List ℕ} {s : Standing} {v d : ℕ} (k : Recolouring P W start near areas col w ps q s v d) where
   module _ (e : at col v ≡ d) where
     -- a region given to its own sector leaves the colouring as it was
     same : recolour col v d ≡ col
@@ -33,7 +33,7 @@ module _ {P : Plan} {W : ℕ} {start near areas col w gs q : List ℕ} {s : Stan
     still-total = rw same (ap (λ (x : Standing). x .total) (k .ready .standing))
 
     -- and nothing is new
-    pub still-remade : Remade P col w (recolour col v d) col w gs (record { standing = s; relabelled = 0 })
+    pub still-remade : Remade P col w (recolour col v d) col w ps (record { standing = s; relabelled = 0 })
     still-remade = rw same (ready-remade (k .setting .limits) (k .ready))
 
   -- what it finds in the work memory

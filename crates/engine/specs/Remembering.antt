@@ -13,7 +13,7 @@ use Rattle.terms.specs.declared.Move.{Move}
 use Rattle.terms.specs.declared.Move.the-variants.{Recolour, Exchange, Ask, Refused}
 use Rattle.meaning.specs.Plan.{Edge, Plan, mostMoves}
 use Rattle.meaning.specs.Paths.{limits-ends}
-use Rattle.meaning.specs.Moves.{swap, next}
+use Rattle.meaning.specs.Moves.{recolour, swap, next}
 use Rattle.meaning.specs.MoveLaws.{exchange-alike}
 use Rattle.search.specs.Confined.{Confined, confined-none, confined-recolour, confined-swap}
 use Rattle.search.specs.Remembered.{Remembered, remembered-later, remembered-raise}
@@ -21,9 +21,9 @@ use Rattle.engine.specs.declared.Standing.{Standing}
 use Rattle.engine.specs.Recolouring.{Recolouring}
 use Rattle.engine.specs.Exchanging.{Exchanging}
 
-module _ {P : Plan} {W : ℕ} {start near areas col w gs q : List ℕ} {s : Standing} {clock : ℕ} {known known′ : List ℕ} {m : Move} {make : Bool} where
+module _ {P : Plan} {W : ℕ} {start near areas col w ps q : List ℕ} {s : Standing} {clock : ℕ} {known known′ : List ℕ} {m : Move} {make : Bool} where
   -- after a recolouring that is made, where the versions of the region's old sector and its new are raised
-  pub remembered-recolour : {v : Region} {c : Sector} → Recolouring P W start near areas col w gs q s (v .0) (c .0) → m ≡ Recolour make v c → make ≡ true
+  pub remembered-recolour : {v : Region} {c : Sector} → Recolouring P W start near areas col w ps q s (v .0) (c .0) → m ≡ Recolour make v c → make ≡ true
       → Remembered (P .R) (P .S) (P .edges) col clock known → clock < mostMoves → known′ ≡ set (set known (P .R + at col (v .0) - 1) (clock + 1)) (P .R + c .0 - 1) (clock + 1)
       → Remembered (P .R) (P .S) (P .edges) (next col m) (clock + 1) known′
   unfolding next
@@ -33,7 +33,7 @@ module _ {P : Plan} {W : ℕ} {start near areas col w gs q : List ℕ} {s : Stan
       rw (e, y, raised) (remembered-raise r confined (limits-ends P (k .setting .limits)) (coloured .sector (v .0) (k .region)) (k .sector) h)
 
   -- after an exchange that is made, where the versions of both sectors are raised
-  pub remembered-exchange : {a b : Region} → Exchanging P W start near areas col w gs q s (a .0) (b .0) → m ≡ Exchange make a b → make ≡ true
+  pub remembered-exchange : {a b : Region} → Exchanging P W start near areas col w ps q s (a .0) (b .0) → m ≡ Exchange make a b → make ≡ true
       → Remembered (P .R) (P .S) (P .edges) col clock known → clock < mostMoves → known′ ≡ set (set known (P .R + at col (a .0) - 1) (clock + 1)) (P .R + at col (b .0) - 1) (clock + 1)
       → Remembered (P .R) (P .S) (P .edges) (next col m) (clock + 1) known′
   unfolding next

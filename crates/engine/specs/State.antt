@@ -11,7 +11,8 @@ use Rattle.meaning.specs.Plan.{Plan, Limits, Coloured}
 use Rattle.meaning.specs.Joined.{labels}
 use Rattle.meaning.specs.Kinds.{whole, counts, loads, total}
 use Rattle.meaning.specs.Moves.{next, delta, relabelled}
-use Rattle.judge.specs.Figures.{figuresOf, gauges}
+use Rattle.meaning.specs.Prices.{prices}
+use Rattle.judge.specs.Figures.{figuresOf}
 use Rattle.neighbours.specs.Table.{Table}
 use Rattle.engine.specs.declared.Standing.{Standing}
 use Rattle.engine.specs.declared.Stepped.{Stepped}
@@ -36,24 +37,24 @@ pub record Setting (P : Plan) (W : ℕ) (start near areas q : List ℕ) : Type 0
   pub queue : P .R < length q
 
 -- what a move finds, and leaves: all is that of the colouring
-pub record Ready (P : Plan) (col w gs : List ℕ) (s : Standing) : Type 0 where
+pub record Ready (P : Plan) (col w ps : List ℕ) (s : Standing) : Type 0 where
   pub coloured : Coloured P col
   pub room : memoryLength P ≤ length w
   pub work : take (memoryLength P) w ≡ memory P col
-  pub gauges : gs ≡ gauges P col
+  pub prices : ps ≡ prices P col
   pub standing : s ≡ standingOf P col
 
--- what the first judgement finds: a colouring, room for the front of the work memory, and a gauge for each constraint
-pub record Opening (P : Plan) (col w gs : List ℕ) : Type 0 where
+-- what the first judgement finds: a colouring, room for the front of the work memory, and a place for each sector's price
+pub record Opening (P : Plan) (col w ps : List ℕ) : Type 0 where
   pub coloured : Coloured P col
   pub room : memoryLength P ≤ length w
-  pub gauges : length gs ≡ length (P .constraints)
+  pub prices : length ps ≡ P .S
 
 -- what it leaves
-pub record Opened (P : Plan) (col w col′ w′ gs′ : List ℕ) (s : Standing) : Type 0 where
+pub record Opened (P : Plan) (col w col′ w′ ps′ : List ℕ) (s : Standing) : Type 0 where
   pub colouring : col′ ≡ col
   pub work : w′ ≡ memory P col ++ drop (memoryLength P) w
-  pub gauges : gs′ ≡ gauges P col
+  pub prices : ps′ ≡ prices P col
   pub standing : s ≡ standingOf P col
 
 -- a move of the plan: its regions are of 1..R and its sector of 1..S
@@ -64,10 +65,10 @@ Within P (Ask v) = In (P .R) (v .0)
 Within P (Refused s) = s < 64
 
 -- what a move does
-pub record Answered (P : Plan) (col w : List ℕ) (m : Move) (col′ w′ gs′ : List ℕ) (r : Stepped) : Type 0 where
+pub record Answered (P : Plan) (col w : List ℕ) (m : Move) (col′ w′ ps′ : List ℕ) (r : Stepped) : Type 0 where
   pub colouring : col′ ≡ next col m
   pub work : w′ ≡ memory P (next col m) ++ drop (memoryLength P) w
-  pub gauges : gs′ ≡ gauges P (next col m)
+  pub prices : ps′ ≡ prices P (next col m)
   pub standing : r .standing ≡ standingOf P (next col m)
   pub delta : r .delta ≡ delta P col m
   pub relabelled : r .relabelled ≡ relabelled P col (next col m)

@@ -44,7 +44,7 @@ module _ {P : Plan} {col : List ℕ} {m : Move} where
   unfolding delta next
   exchange-tries e = rw e (record { delta = refl; made = λ t. rw t; probed = λ t. rw t })
 
-module _ {P : Plan} {W : ℕ} {start near areas col w gs q : List ℕ} {s : Standing} (k : Setting P W start near areas q) (r : Ready P col w gs s) where
+module _ {P : Plan} {W : ℕ} {start near areas col w ps q : List ℕ} {s : Standing} (k : Setting P W start near areas q) (r : Ready P col w ps s) where
   -- the total as it stands is below 2 ^ 63
   before-small : s .total < 2 ^ 63
   before-small = rw (r .standing) (omega (arith, total-bound P (k .limits) col))
@@ -56,11 +56,11 @@ module _ {P : Plan} {W : ℕ} {start near areas col w gs q : List ℕ} {s : Stan
   module _ {m : Move} where
     module _ (i : Within P m) where
       -- a recolouring finds what it wants
-      pub recolour-finds : {make : Bool} {v : Region} {c : Sector} → m ≡ Recolour make v c → Recolouring P W start near areas col w gs q s (v .0) (c .0)
+      pub recolour-finds : {make : Bool} {v : Region} {c : Sector} → m ≡ Recolour make v c → Recolouring P W start near areas col w ps q s (v .0) (c .0)
       recolour-finds e = let j = rw e at i in record { setting = k; ready = r; region = j .0; sector = j .1 }
 
       -- and so does an exchange
-      pub exchange-finds : {make : Bool} {a b : Region} → m ≡ Exchange make a b → Exchanging P W start near areas col w gs q s (a .0) (b .0)
+      pub exchange-finds : {make : Bool} {a b : Region} → m ≡ Exchange make a b → Exchanging P W start near areas col w ps q s (a .0) (b .0)
       exchange-finds e = let j = rw e at i in record { setting = k; ready = r; first = j .0; second = j .1 }
 
       -- and a question
@@ -69,32 +69,32 @@ module _ {P : Plan} {W : ℕ} {start near areas col w gs q : List ℕ} {s : Stan
           record { kept = ready-kept (k .limits) r; table = k .table; whole = k .whole; region = rw e at i }
 
     -- where nothing is made, the answer is the delta alone
-    still : {col′ w′ gs′ : List ℕ} {z : ℤ} → next col m ≡ col → Left P w col col′ w′ gs′ → z ≡ delta P col m → Answered P col w m col′ w′ gs′ (record { standing = s; delta = toZ w64 (ofZ w64 z); relabelled = 0 })
+    still : {col′ w′ ps′ : List ℕ} {z : ℤ} → next col m ≡ col → Left P w col col′ w′ ps′ → z ≡ delta P col m → Answered P col w m col′ w′ ps′ (record { standing = s; delta = toZ w64 (ofZ w64 z); relabelled = 0 })
     still n f e =
         record {
           colouring = rw n (f .colouring);
           work = rw n (f .work);
-          gauges = rw n (f .gauges);
+          prices = rw n (f .prices);
           standing = rw n (r .standing);
           delta = reads m e;
           relabelled = rw n (sym (relabelled-none P col));
         }
 
     module _ {make : Bool} {after : List ℕ} (t : Tries P col m make after) where
-      module _ {col′ w′ gs′ : List ℕ} {n : Made} (f : Remade P col w after col′ w′ gs′ n) where
+      module _ {col′ w′ ps′ : List ℕ} {n : Made} (f : Remade P col w after col′ w′ ps′ n) where
         -- the totals before and after what is made can be compared
         pub made-small : (n .standing .total < 2 ^ 63) × (s .total < 2 ^ 63)
         made-small = (rw (f .standing) (omega (arith, total-bound P (k .limits) after)), before-small)
 
         -- a move that is made answers what stands then
         pub made-answered : {z : ℤ} → make ≡ true → z ≡ pos (n .standing .total) -ℤ pos (s .total)
-            → Answered P col w m col′ w′ gs′ (record { standing = n .standing; delta = toZ w64 (ofZ w64 z); relabelled = n .relabelled })
+            → Answered P col w m col′ w′ ps′ (record { standing = n .standing; delta = toZ w64 (ofZ w64 z); relabelled = n .relabelled })
         made-answered y e =
             let x = t .made y in
             record {
               colouring = rw x (f .left .colouring);
               work = rw x (f .left .work);
-              gauges = rw x (f .left .gauges);
+              prices = rw x (f .left .prices);
               standing = rw x (f .standing);
               delta = reads m (e ∙ rw (f .standing, r .standing) (sym (t .delta)));
               relabelled = rw x (f .relabelled);
@@ -106,8 +106,8 @@ module _ {P : Plan} {W : ℕ} {start near areas col w gs q : List ℕ} {s : Stan
         probed-small = (omega (arith, total-bound P (k .limits) after), before-small)
 
         -- a move that is probed answers what it would change
-        pub probed-answered : {col′ w′ gs′ : List ℕ} {z : ℤ} → make ≡ false → Left P w col col′ w′ gs′ → z ≡ pos n -ℤ pos (s .total)
-            → Answered P col w m col′ w′ gs′ (record { standing = s; delta = toZ w64 (ofZ w64 z); relabelled = 0 })
+        pub probed-answered : {col′ w′ ps′ : List ℕ} {z : ℤ} → make ≡ false → Left P w col col′ w′ ps′ → z ≡ pos n -ℤ pos (s .total)
+            → Answered P col w m col′ w′ ps′ (record { standing = s; delta = toZ w64 (ofZ w64 z); relabelled = 0 })
         probed-answered y f e = still (t .probed y) f (e ∙ rw (p, r .standing) (sym (t .delta)))
 
     module _ {v : Region} (e : m ≡ Ask v) {n : ℕ} (p : n ≡ regionViolation P col (v .0)) where
@@ -116,11 +116,11 @@ module _ {P : Plan} {W : ℕ} {start near areas col w gs q : List ℕ} {s : Stan
       asked-small = (omega (arith, region-bound P (k .limits) col (v .0)), omega arith)
 
       -- a question answers the region's violation
-      pub asked-answered : {z : ℤ} → z ≡ pos n -ℤ pos 0 → Answered P col w m col w gs (record { standing = s; delta = toZ w64 (ofZ w64 z); relabelled = 0 })
+      pub asked-answered : {z : ℤ} → z ≡ pos n -ℤ pos 0 → Answered P col w m col w ps (record { standing = s; delta = toZ w64 (ofZ w64 z); relabelled = 0 })
       unfolding delta next
       asked-answered q = still (rw e) (ready-left (k .limits) r refl) (q ∙ rw (e, p, add-zero))
 
     -- a refused move answers nothing
-    pub refused-answered : {x : ℕ} → m ≡ Refused x → Answered P col w m col w gs (record { standing = s; delta = pos 0; relabelled = 0 })
+    pub refused-answered : {x : ℕ} → m ≡ Refused x → Answered P col w m col w ps (record { standing = s; delta = pos 0; relabelled = 0 })
     unfolding delta next
     refused-answered e = still {z = pos 0} (rw e) (ready-left (k .limits) r refl) (rw e)

@@ -8,14 +8,16 @@ use mathlib.Core.Logic.{_≢_}
 use mathlib.Core.Bool.{true}
 use lib.ListN.{length}
 use Rattle.lists.specs.Sums.{In, at}
-use Rattle.meaning.specs.Plan.{Plan, Limits, Coloured, flightsOf, constraintsOf}
+use Rattle.meaning.specs.Plan.{Constraint, Plan, Limits, Coloured, flightsOf, constraintsOf}
 use Rattle.meaning.specs.Joined.{labels}
 use Rattle.meaning.specs.Kinds.{ncc, load}
 use Rattle.meaning.specs.Moves.{recolour, differing, relabelled}
 use Rattle.meaning.specs.Faces.{lift}
-use Rattle.meaning.specs.Bounds.{ncc-bound, load-bound}
+use Rattle.meaning.specs.Bounds.{mostLoad, ncc-bound, load-bound}
+use Rattle.meaning.specs.Prices.{limited, price, prices}
 use Rattle.meaning.specs.PriceLaws.{cost-bound}
 use Rattle.meaning.specs.Recoloured.{load-come, load-go, ncc-come, ncc-go}
+use Rattle.kinds.specs.Constraints.{Paying}
 use Rattle.neighbours.specs.Table.{Table}
 use Rattle.neighbours.specs.Net.{table-net}
 use Rattle.search.specs.declared.Look.{Look}
@@ -23,16 +25,18 @@ use Rattle.search.specs.Looking.{Looking, Looked}
 use Rattle.search.specs.Remembered.{Remembered}
 use Rattle.visitors.specs.Visitors.{Pricing}
 use Rattle.visitors.specs.AlongBoth.{VisitorsDiffer}
+use Rattle.change.specs.declared.Pair.{Pair}
 use Rattle.change.specs.declared.Sides.{Sides}
 use Rattle.change.specs.declared.Swing.{Swing}
 use Rattle.change.specs.declared.Change.{Change}
-use Rattle.change.specs.Changed.{sidesOf, Changed, Single, faces-bound, Costs, changed-recolour}
+use Rattle.change.specs.Changed.{sidesOf, sides-prices, Changed, Single, faces-bound, Costs, changed-recolour}
 use Rattle.relabel.specs.Recolouring.{Recolourable}
 use Rattle.engine.specs.declared.Standing.{Standing}
 use Rattle.engine.specs.declared.turn.Turned.{Turned}
 use Rattle.engine.specs.State.{Setting, Ready}
 use Rattle.engine.specs.Flown.{Flown, priced-costs, flown-pricing}
-use Rattle.engine.specs.Memory.{Placed, sidesIn, Kept, kept-sides}
+use Rattle.engine.specs.Sorted.{sorted-paying}
+use Rattle.engine.specs.Memory.{Placed, plan-placed, sidesIn, Kept, kept-sides}
 
 -- the numbers that change do not fall below 0 and do not get too large
 pub record Movable (before : Sides) (workload : ℕ) (look : Look) : Type 0 where
@@ -43,14 +47,25 @@ pub record Movable (before : Sides) (workload : ℕ) (look : Look) : Type 0 wher
   pub leaves : workload ≤ before .workloads .old
   pub comes : before .workloads .new + workload < 2 ^ 64
 
--- the change, by what the two sectors have before, the region's workload, a look at the region, and what the flights that visit it cost
-abbrev pub changeOf : Sides → ℕ → Look → Swing → Change
-changeOf before workload look dwell =
+-- a workload can go from the one sector to the other, and what they have then can be paid for
+pub record Passing (workloads : Pair) (workload : ℕ) : Type 0 where
+  pub leaves : workload ≤ workloads .old
+  pub old : workloads .old - workload ≤ mostLoad
+  pub new : workloads .new + workload ≤ mostLoad
+
+-- what the two sectors pay once it has gone
+abbrev pub paidBy : List Constraint → Pair → ℕ → Pair
+paidBy ks workloads workload = record { old = price ks (workloads .old - workload); new = price ks (workloads .new + workload) }
+
+-- the change, by what the two sectors have before, the region's workload, what they pay after, a look at the region, and what the flights that visit it cost
+abbrev pub changeOf : Sides → ℕ → Pair → Look → Swing → Change
+changeOf before workload prices look dwell =
     record {
       before = before;
       after = record {
         components = record { old = before .components .old + look .pieces - 1; new = before .components .new + 1 - look .met .touching };
         workloads = record { old = before .workloads .old - workload; new = before .workloads .new + workload };
+        prices = prices;
       };
       border = record { gained = look .met .here; lost = look .met .there };
       dwell = dwell;
@@ -83,7 +98,7 @@ pub record Followed (P : Plan) (col after : List ℕ) (own d : ℕ) (col′ ls�
   pub relabelled : t .relabelled ≡ relabelled P col after
 
 -- every move finds it
-pub ready-ground : {P : Plan} {W : ℕ} {start near areas q col w gs : List ℕ} {s : Standing} → Setting P W start near areas q → Ready P col w gs s → Ground P start near areas col q
+pub ready-ground : {P : Plan} {W : ℕ} {start near areas q col w ps : List ℕ} {s : Standing} → Setting P W start near areas q → Ready P col w ps s → Ground P start near areas col q
 ready-ground k r = record { limits = k .limits; coloured = r .coloured; table = k .table; queue = k .queue }
 
 -- where a region is given to another sector, that is the change
@@ -103,14 +118,14 @@ module _ {P : Plan} {start near areas col q : List ℕ} {v d : ℕ} (t : Turning
   own : In (P .S) (at col v)
   own = coloured .sector v (t .region)
 
-  module _ {w : List ℕ} (k : Kept P col w) where
-    -- the two sectors have their numbers in the work memory
-    pub turning-placed : Placed w (P .R) (P .S) (at col v) d
-    turning-placed = record { room = k .room; old = own; new = t .sector }
+  module _ {w ps : List ℕ} (k : Kept P col w) (paid : ps ≡ prices P col) where
+    -- the two sectors have their numbers in the work memory, and their prices beside it
+    pub turning-placed : Placed w ps (P .R) (P .S) (at col v) d
+    turning-placed = plan-placed P col (k .room) paid own (t .sector)
 
     -- which are those of the colouring
-    pub turning-sides : {before : Sides} → before ≡ sidesIn w (P .R) (P .S) (at col v) d → before ≡ sidesOf P col (at col v) d
-    turning-sides b = b ∙ kept-sides k own (t .sector)
+    pub turning-sides : {before : Sides} → before ≡ sidesIn w ps (P .R) (P .S) (at col v) d → before ≡ sidesOf P col (at col v) d
+    turning-sides b = b ∙ kept-sides k own (t .sector) paid
 
   -- R is read off the array of neighbours
   size : length start - 1 ≡ P .R
@@ -165,6 +180,26 @@ module _ {P : Plan} {start near areas col q : List ℕ} {v d : ℕ} (t : Turning
     pub turning-costs : {s : Swing} → VisitorsDiffer (constraintsOf timed) col′ v d (flightsOf counts visits) (record { before = s .lost; after = s .gained }) → Costs P col v d s
     turning-costs e = priced-costs (f .priced) col v d (rw same at e)
 
+  -- the workload of the old sector
+  leaves : load P col (at col v) - at (P .workloads) v ≡ load P (recolour col v d) (at col v)
+  leaves = omega (arith, load-go coloured (t .region) (t .sector) (t .other))
+
+  -- and of the new
+  comes : load P col d + at (P .workloads) v ≡ load P (recolour col v d) d
+  comes = sym (load-come coloured (t .region) (t .sector) (t .other))
+
+  -- what the two sectors have after it can be paid for
+  pub turning-paying : {before : Sides} {li : List ℕ} → before ≡ sidesOf P col (at col v) d → constraintsOf li ≡ limited (P .constraints) → Paying li × Passing (before .workloads) (at (P .workloads) v)
+  turning-paying b sorted = (
+    sorted-paying limits 4 4 sorted,
+    rw b
+        (record {
+          leaves = omega (arith, load-go coloured (t .region) (t .sector) (t .other));
+          old = rw leaves (load-bound P limits (recolour col v d) (at col v));
+          new = rw comes (load-bound P limits (recolour col v d) d);
+        }),
+  )
+
   module _ {before : Sides} (b : before ≡ sidesOf P col (at col v) d) {look : Look} (k : Looked (P .edges) col v d look) where
     -- the components of the old sector
     go : ncc P (recolour col v d) (at col v) + 1 ≡ ncc P col (at col v) + look .pieces
@@ -188,11 +223,12 @@ module _ {P : Plan} {start near areas col q : List ℕ} {v d : ℕ} (t : Turning
         })
 
     -- and then they are those of the new colouring
-    pub turning-turns : {c : Change} {dwell : Swing} → Costs P col v d dwell → c ≡ changeOf before (at (P .workloads) v) look dwell → Turns P col v d c
-    turning-turns f e =
-        rw (e, b)
+    pub turning-turns : {ks : List Constraint} {prices : Pair} {dwell : Swing} {c : Change} → ks ≡ limited (P .constraints) → prices ≡ paidBy ks (before .workloads) (at (P .workloads) v)
+        → Costs P col v d dwell → c ≡ changeOf before (at (P .workloads) v) prices look dwell → Turns P col v d c
+    turning-turns sorted p f e =
+        rw (e, p, sorted, b)
         (record {
-          changed = changed-recolour limits coloured (t .region) (t .sector) (t .other) refl (rw (old, new, leaves, comes)) (rw (k .met .here, k .met .there)) f;
+          changed = changed-recolour limits coloured (t .region) (t .sector) (t .other) refl (sides-prices P (recolour col v d) (at col v) d (rw (old, new)) (rw (leaves, comes)) refl) (rw (k .met .here, k .met .there)) f;
           single = record { border = rw (k .met .here) (faces-bound limits (lift col v) v (at col v)); dwell = omega (arith, f .gained, cost-bound limits (recolour col v d) true v) };
         })
       where
@@ -201,12 +237,6 @@ module _ {P : Plan} {start near areas col q : List ℕ} {v d : ℕ} (t : Turning
 
         new : ncc P col d + 1 - look .met .touching ≡ ncc P (recolour col v d) d
         new = omega (arith, come)
-
-        leaves : load P col (at col v) - at (P .workloads) v ≡ load P (recolour col v d) (at col v)
-        leaves = omega (arith, load-go coloured (t .region) (t .sector) (t .other))
-
-        comes : load P col d + at (P .workloads) v ≡ load P (recolour col v d) d
-        comes = sym (load-come coloured (t .region) (t .sector) (t .other))
 
   -- the colouring and the labels have followed
   pub turning-followed : {col₁ ls col₂ ls₂ : List ℕ} {c : Change} {n : ℕ} → col₁ ≡ col → ls ≡ labels (P .edges) col → col₂ ≡ recolour col₁ v d → ls₂ ≡ labels (P .edges) (recolour col₁ v d)

@@ -2,7 +2,8 @@
 ghost use mathlib.Core.Path.{_≡_};
 ghost use lib.ListN.{length};
 ghost use Rattle.lists.specs.Sums.{at};
-ghost use Rattle.meaning.specs.Plan.{Plan, planOf};
+ghost use Rattle.meaning.specs.Plan.{Plan, planOf, constraintsOf};
+ghost use Rattle.meaning.specs.Prices.{limited as limitedOf};
 ghost use Rattle.meaning.specs.Joined.{labels as labelsOf};
 ghost use Rattle.meaning.specs.Kinds.{total};
 ghost use Rattle.meaning.specs.Moves.{swap};
@@ -16,6 +17,7 @@ ghost use Rattle.engine.specs.Remade.{Remade};
 ghost use Rattle.engine.specs.Swapping.{Swapping};
 ghost use Rattle.engine.specs.Exchanging.{Exchanging};
 ghost use Rattle.engine.specs.Flown.{Flown};
+ghost use Rattle.engine.specs.Sorted.{Sorted, Paid};
 use crate::Made;
 use crate::Standing;
 use crate::memory::differing;
@@ -29,8 +31,8 @@ use change::Change;
 use change::Sides;
 use change::figures_after;
 use change::in_turn;
-use change::total_after;
 use change::turned_round;
+use judge::verdicts::total;
 use lists::copy;
 use terms::limits::MOST_REGIONS;
 
@@ -43,6 +45,7 @@ fn change_both(
     counts: &[u64],
     visits: &[u64],
     constraints: &[u64],
+    limited: &[u64],
     start: &[u64],
     near: &[u64],
     areas: &[u64],
@@ -52,6 +55,7 @@ fn change_both(
     firsts: &[u64],
     colouring: &mut [u64],
     work: &[u64],
+    prices: &[u64],
     queue: &mut [u64],
     known: &mut [u64],
     clock: u64,
@@ -60,6 +64,7 @@ fn change_both(
 ) -> Change
     ghost { Plan }
     requires { λ P. ⌜ planOf (length (now workloads)) sectors (now workloads) (now outside) (now edges) (now counts) (now visits) (now constraints) ≡ P ⌝ }
+    requires { λ P. ⌜ Paid P (now colouring) (now limited) (now prices) ⌝ }
     requires { λ P. ⌜ Remembered (P .R) (P .S) (P .edges) (now colouring) clock (now known) ⌝ }
     requires { λ P. ⌜ Swapping P (now start) (now near) (now areas) (now colouring) (now queue) first second ⌝ }
     requires { λ P. ⌜ Kept P (now colouring) (now work) ⌝ }
@@ -79,6 +84,7 @@ fn change_both(
         counts,
         visits,
         constraints,
+        limited,
         start,
         near,
         areas,
@@ -88,6 +94,7 @@ fn change_both(
         firsts,
         colouring,
         work,
+        prices,
         queue,
         known,
         clock,
@@ -103,6 +110,7 @@ fn change_both(
         counts,
         visits,
         constraints,
+        limited,
         start,
         near,
         areas,
@@ -130,6 +138,8 @@ pub fn probe(
     counts: &[u64],
     visits: &[u64],
     constraints: &[u64],
+    shared: &[u64],
+    limited: &[u64],
     start: &[u64],
     near: &[u64],
     areas: &[u64],
@@ -139,7 +149,7 @@ pub fn probe(
     firsts: &[u64],
     colouring: &mut [u64],
     work: &[u64],
-    gauges: &[u64],
+    prices: &[u64],
     queue: &mut [u64],
     known: &mut [u64],
     clock: u64,
@@ -149,8 +159,9 @@ pub fn probe(
 ) -> u64
     ghost { Plan }
     requires { λ P. ⌜ planOf (length (now workloads)) sectors (now workloads) (now outside) (now edges) (now counts) (now visits) (now constraints) ≡ P ⌝ }
+    requires { λ P. ⌜ Sorted P (now shared) (now limited) ⌝ }
     requires { λ P. ⌜ Remembered (P .R) (P .S) (P .edges) (now colouring) clock (now known) ⌝ }
-    requires { λ P. ⌜ Exchanging P whole (now start) (now near) (now areas) (now colouring) (now work) (now gauges) (now queue) standing first second ⌝ }
+    requires { λ P. ⌜ Exchanging P whole (now start) (now near) (now areas) (now colouring) (now work) (now prices) (now queue) standing first second ⌝ }
     requires { λ P. ⌜ Flown P (now timed) (now counts) (now visits) (now visited) (now flights) (now firsts) ⌝ }
     ensures { λ P r. ⌜ Remembered (P .R) (P .S) (P .edges) (now (colouring .entry)) clock (now (known .exit)) ⌝ }
     ensures { λ P r. ⌜ r ≡ total P (swap (now (colouring .entry)) first second) ⌝ }
@@ -169,6 +180,7 @@ pub fn probe(
         counts,
         visits,
         constraints,
+        limited,
         start,
         near,
         areas,
@@ -178,6 +190,7 @@ pub fn probe(
         firsts,
         colouring,
         work,
+        prices,
         queue,
         known,
         clock,
@@ -185,7 +198,7 @@ pub fn probe(
         second,
     );
     let figures = figures_after(sectors, whole, standing.figures, change);
-    total_after(constraints, figures, gauges, change)
+    total(shared, figures)
 }
 
 // What two recolourings in turn change together, with the new labels counted from before both.
@@ -207,6 +220,7 @@ fn turn_both(
     counts: &[u64],
     visits: &[u64],
     constraints: &[u64],
+    limited: &[u64],
     start: &[u64],
     near: &[u64],
     areas: &[u64],
@@ -223,6 +237,7 @@ fn turn_both(
 ) -> Turned
     ghost { Plan }
     requires { λ P. ⌜ planOf (length (now workloads)) sectors (now workloads) (now outside) (now edges) (now counts) (now visits) (now constraints) ≡ P ⌝ }
+    requires { λ P. ⌜ constraintsOf (now limited) ≡ limitedOf (P .constraints) ⌝ }
     requires { λ P. ⌜ Swapping P (now start) (now near) (now areas) (now colouring) (now queue) first second ⌝ }
     requires { λ P. ⌜ before ≡ sidesOf P (now colouring) (at (now colouring) first) (at (now colouring) second) ⌝ }
     requires { λ P. ⌜ now labels ≡ labelsOf (P .edges) (now colouring) ⌝ }
@@ -242,6 +257,7 @@ fn turn_both(
         counts,
         visits,
         constraints,
+        limited,
         start,
         near,
         areas,
@@ -265,6 +281,7 @@ fn turn_both(
         counts,
         visits,
         constraints,
+        limited,
         start,
         near,
         areas,
@@ -292,6 +309,8 @@ pub fn make(
     counts: &[u64],
     visits: &[u64],
     constraints: &[u64],
+    shared: &[u64],
+    limited: &[u64],
     start: &[u64],
     near: &[u64],
     areas: &[u64],
@@ -301,7 +320,7 @@ pub fn make(
     firsts: &[u64],
     colouring: &mut [u64],
     work: &mut [u64],
-    gauges: &mut [u64],
+    prices: &mut [u64],
     queue: &mut [u64],
     standing: Standing,
     first: u64,
@@ -309,9 +328,10 @@ pub fn make(
 ) -> Made
     ghost { Plan }
     requires { λ P. ⌜ planOf (length (now workloads)) sectors (now workloads) (now outside) (now edges) (now counts) (now visits) (now constraints) ≡ P ⌝ }
-    requires { λ P. ⌜ Exchanging P whole (now start) (now near) (now areas) (now colouring) (now work) (now gauges) (now queue) standing first second ⌝ }
+    requires { λ P. ⌜ Sorted P (now shared) (now limited) ⌝ }
+    requires { λ P. ⌜ Exchanging P whole (now start) (now near) (now areas) (now colouring) (now work) (now prices) (now queue) standing first second ⌝ }
     requires { λ P. ⌜ Flown P (now timed) (now counts) (now visits) (now visited) (now flights) (now firsts) ⌝ }
-    ensures { λ P r. ⌜ Remade P (now (colouring .entry)) (now (work .entry)) (swap (now (colouring .entry)) first second) (now (colouring .exit)) (now (work .exit)) (now (gauges .exit)) r ⌝ }
+    ensures { λ P r. ⌜ Remade P (now (colouring .entry)) (now (work .entry)) (swap (now (colouring .entry)) first second) (now (colouring .exit)) (now (work .exit)) (now (prices .exit)) r ⌝ }
 {
     let from = colouring[first as usize - 1];
     let to = colouring[second as usize - 1];
@@ -322,7 +342,7 @@ pub fn make(
         };
     }
     let regions = workloads.len();
-    let before = sides_in(work, regions, sectors, from, to);
+    let before = sides_in(work, prices, regions, sectors, from, to);
     let turned = turn_both(
         sectors,
         workloads,
@@ -331,6 +351,7 @@ pub fn make(
         counts,
         visits,
         constraints,
+        limited,
         start,
         near,
         areas,
@@ -354,9 +375,10 @@ pub fn make(
         counts,
         visits,
         constraints,
+        shared,
         colouring,
         work,
-        gauges,
+        prices,
         standing,
         from,
         to,

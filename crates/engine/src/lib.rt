@@ -7,8 +7,12 @@ ghost use Rattle.meaning.specs.Plan.{Plan, planOf, mostMoves};
 ghost use Rattle.meaning.specs.Moves.{next};
 ghost use Rattle.search.specs.Remembered.{Remembered};
 ghost use Rattle.engine.specs.State.{Setting, Ready, Within, Opening, Opened, Answered};
+ghost use Rattle.kinds.specs.Paid.{weightsOf};
+ghost use Rattle.engine.specs.Sorted.{Sorted};
 ghost use Rattle.engine.specs.Flown.{Priced, Flown};
 use judge::Figures;
+use kinds::Weights;
+use lists::sum_of;
 use search::raise;
 use terms::Move;
 
@@ -56,6 +60,9 @@ pub fn step(
     counts: &[u64],
     visits: &[u64],
     constraints: &[u64],
+    shared: &[u64],
+    limited: &[u64],
+    weights: Weights,
     start: &[u64],
     near: &[u64],
     areas: &[u64],
@@ -65,7 +72,7 @@ pub fn step(
     firsts: &[u64],
     colouring: &mut [u64],
     work: &mut [u64],
-    gauges: &mut [u64],
+    prices: &mut [u64],
     queue: &mut [u64],
     known: &mut [u64],
     clock: u64,
@@ -74,14 +81,15 @@ pub fn step(
 ) -> Stepped
     ghost { Plan }
     requires { λ P. ⌜ planOf (length (now workloads)) sectors (now workloads) (now outside) (now edges) (now counts) (now visits) (now constraints) ≡ P ⌝ }
+    requires { λ P. ⌜ Sorted P (now shared) (now limited) × (weights ≡ weightsOf (P .constraints)) ⌝ }
     requires { λ P. ⌜ Remembered (P .R) (P .S) (P .edges) (now colouring) clock (now known) ⌝ }
     requires { λ P. ⌜ clock < mostMoves ⌝ }
     requires { λ P. ⌜ Setting P whole (now start) (now near) (now areas) (now queue) ⌝ }
-    requires { λ P. ⌜ Ready P (now colouring) (now work) (now gauges) standing ⌝ }
+    requires { λ P. ⌜ Ready P (now colouring) (now work) (now prices) standing ⌝ }
     requires { λ P. ⌜ Within P asked ⌝ }
     requires { λ P. ⌜ Flown P (now timed) (now counts) (now visits) (now visited) (now flights) (now firsts) ⌝ }
     ensures { λ P r. ⌜ Remembered (P .R) (P .S) (P .edges) (next (now (colouring .entry)) asked) (clock + 1) (now (known .exit)) ⌝ }
-    ensures { λ P r. ⌜ Answered P (now (colouring .entry)) (now (work .entry)) asked (now (colouring .exit)) (now (work .exit)) (now (gauges .exit)) r ⌝ }
+    ensures { λ P r. ⌜ Answered P (now (colouring .entry)) (now (work .entry)) asked (now (colouring .exit)) (now (work .exit)) (now (prices .exit)) r ⌝ }
 {
     let before = standing.total;
     match asked {
@@ -101,6 +109,8 @@ pub fn step(
                     counts,
                     visits,
                     constraints,
+                    shared,
+                    limited,
                     start,
                     near,
                     areas,
@@ -110,7 +120,7 @@ pub fn step(
                     firsts,
                     colouring,
                     work,
-                    gauges,
+                    prices,
                     queue,
                     standing,
                     region.0,
@@ -133,6 +143,8 @@ pub fn step(
                 counts,
                 visits,
                 constraints,
+                shared,
+                limited,
                 start,
                 near,
                 areas,
@@ -142,7 +154,7 @@ pub fn step(
                 firsts,
                 colouring,
                 work,
-                gauges,
+                prices,
                 queue,
                 known,
                 clock,
@@ -173,6 +185,8 @@ pub fn step(
                     counts,
                     visits,
                     constraints,
+                    shared,
+                    limited,
                     start,
                     near,
                     areas,
@@ -182,7 +196,7 @@ pub fn step(
                     firsts,
                     colouring,
                     work,
-                    gauges,
+                    prices,
                     queue,
                     standing,
                     first.0,
@@ -205,6 +219,8 @@ pub fn step(
                 counts,
                 visits,
                 constraints,
+                shared,
+                limited,
                 start,
                 near,
                 areas,
@@ -214,7 +230,7 @@ pub fn step(
                 firsts,
                 colouring,
                 work,
-                gauges,
+                prices,
                 queue,
                 known,
                 clock,
@@ -238,6 +254,7 @@ pub fn step(
                 counts,
                 visits,
                 constraints,
+                weights,
                 start,
                 near,
                 areas,
@@ -247,6 +264,7 @@ pub fn step(
                 firsts,
                 colouring,
                 work,
+                prices,
                 region.0,
             );
             return Stepped {
@@ -265,7 +283,7 @@ pub fn step(
     }
 }
 
-// Judges the colouring from scratch into the front of the work memory and into the gauges.
+// Judges the colouring from scratch into the front of the work memory and into the prices of the sectors.
 pub fn begin(
     sectors: u64,
     whole: u64,
@@ -275,21 +293,24 @@ pub fn begin(
     counts: &[u64],
     visits: &[u64],
     constraints: &[u64],
+    shared: &[u64],
+    limited: &[u64],
     start: &[u64],
     near: &[u64],
     areas: &[u64],
     timed: &[u64],
     colouring: &mut [u64],
     work: &mut [u64],
-    gauges: &mut [u64],
+    prices: &mut [u64],
     queue: &mut [u64],
 ) -> Standing
     ghost { Plan }
     requires { λ P. ⌜ planOf (length (now workloads)) sectors (now workloads) (now outside) (now edges) (now counts) (now visits) (now constraints) ≡ P ⌝ }
+    requires { λ P. ⌜ Sorted P (now shared) (now limited) ⌝ }
     requires { λ P. ⌜ Setting P whole (now start) (now near) (now areas) (now queue) ⌝ }
-    requires { λ P. ⌜ Opening P (now colouring) (now work) (now gauges) ⌝ }
+    requires { λ P. ⌜ Opening P (now colouring) (now work) (now prices) ⌝ }
     requires { λ P. ⌜ Priced P (now timed) (now counts) (now visits) ⌝ }
-    ensures { λ P r. ⌜ Opened P (now (colouring .entry)) (now (work .entry)) (now (colouring .exit)) (now (work .exit)) (now (gauges .exit)) r ⌝ }
+    ensures { λ P r. ⌜ Opened P (now (colouring .entry)) (now (work .entry)) (now (colouring .exit)) (now (work .exit)) (now (prices .exit)) r ⌝ }
 {
     memory::lay_out(
         sectors,
@@ -310,15 +331,17 @@ pub fn begin(
     let loads_end = counts_end + sectors as usize;
     let border = judge::tallies::border_of(outside, edges, colouring);
     let dwell = flights::pricing::price_all(timed, counts, visits, colouring);
+    judge::measures::price_all(limited, &work[counts_end..loads_end], prices);
+    let bounded = sum_of(prices);
     let figures = judge::measures::figures_of(
         sectors,
         whole,
         &work[regions..counts_end],
         &work[counts_end..loads_end],
         border,
+        bounded,
         dwell,
     );
-    judge::measures::gauge_all(constraints, &work[counts_end..loads_end], gauges);
-    let total = judge::verdicts::total(constraints, figures, gauges);
+    let total = judge::verdicts::total(shared, figures);
     Standing { figures, total }
 }

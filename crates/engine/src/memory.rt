@@ -1,21 +1,29 @@
 // The front of the work memory: the labels, then the component count and then the workload sum of each sector.
 ghost use mathlib.Core.Path.{_≡_};
 ghost use mathlib.Core.List.{_++_};
+ghost use Prim.Native.Nat.{_-_};
 ghost use lib.ListN.{length, drop};
 ghost use Rattle.meaning.specs.Plan.{Plan, planOf};
 ghost use Rattle.meaning.specs.Moves.{differing as differingOf};
 ghost use Rattle.engine.specs.State.{memory, memoryLength};
-ghost use Rattle.engine.specs.Memory.{Placed, sidesIn, sidesPut};
+ghost use Rattle.engine.specs.Memory.{Placed, sidesIn, sidesPut, pairPut};
 ghost use Rattle.engine.specs.Opening.{Blank};
 use change::Pair;
 use change::Sides;
 use lists::copy;
 use terms::limits::MOST_REGIONS;
 
-// The component counts and the workload sums of two sectors: the one that a region leaves and the one that it comes to.
-pub fn sides_in(work: &[u64], regions: usize, sectors: u64, own: u64, sector: u64) -> Sides
-    requires { ⌜ Placed (now work) regions sectors own sector ⌝ }
-    ensures { λ r. ⌜ r ≡ sidesIn (now (work .entry)) regions sectors own sector ⌝ }
+// The component counts, the workload sums and the prices of two sectors: the one that a region leaves and the one that it comes to.
+pub fn sides_in(
+    work: &[u64],
+    prices: &[u64],
+    regions: usize,
+    sectors: u64,
+    own: u64,
+    sector: u64,
+) -> Sides
+    requires { ⌜ Placed (now work) (now prices) regions sectors own sector ⌝ }
+    ensures { λ r. ⌜ r ≡ sidesIn (now (work .entry)) (now (prices .entry)) regions sectors own sector ⌝ }
 {
     let old = regions + own as usize - 1;
     let new = regions + sector as usize - 1;
@@ -28,33 +36,43 @@ pub fn sides_in(work: &[u64], regions: usize, sectors: u64, own: u64, sector: u6
         old: work[old + further],
         new: work[new + further],
     };
+    let paid = Pair {
+        old: prices[own as usize - 1],
+        new: prices[sector as usize - 1],
+    };
     Sides {
         components,
         workloads,
+        prices: paid,
     }
 }
 
-// Puts down the component counts and the workload sums of two sectors.
+// Puts down the component counts, the workload sums and the prices of two sectors.
 pub fn put_sides(
     work: &mut [u64],
+    prices: &mut [u64],
     regions: usize,
     sectors: u64,
     own: u64,
     sector: u64,
     sides: Sides,
 )
-    requires { ⌜ Placed (now work) regions sectors own sector ⌝ }
+    requires { ⌜ Placed (now work) (now prices) regions sectors own sector ⌝ }
     ensures { λ _. ⌜ now (work .exit) ≡ sidesPut (now (work .entry)) regions sectors own sector sides ⌝ }
+    ensures { λ _. ⌜ now (prices .exit) ≡ pairPut (now (prices .entry)) (own - 1) (sector - 1) (sides .prices) ⌝ }
 {
     let old = regions + own as usize - 1;
     let new = regions + sector as usize - 1;
     let further = sectors as usize;
     let components = sides.components;
     let workloads = sides.workloads;
+    let paid = sides.prices;
     work[old] = components.old;
     work[new] = components.new;
     work[old + further] = workloads.old;
     work[new + further] = workloads.new;
+    prices[own as usize - 1] = paid.old;
+    prices[sector as usize - 1] = paid.new;
 }
 
 // How many regions have another label after than before.

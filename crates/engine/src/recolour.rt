@@ -8,6 +8,7 @@ ghost use Rattle.search.specs.Remembered.{Remembered};
 ghost use Rattle.engine.specs.Remade.{Remade};
 ghost use Rattle.engine.specs.Recolouring.{Recolouring};
 ghost use Rattle.engine.specs.Flown.{Flown};
+ghost use Rattle.engine.specs.Sorted.{Sorted};
 use crate::Made;
 use crate::Standing;
 use crate::memory::sides_in;
@@ -15,7 +16,7 @@ use crate::settle::settle;
 use crate::turn::change_at;
 use crate::turn::turn;
 use change::figures_after;
-use change::total_after;
+use judge::verdicts::total;
 
 // The total if the region were given to the sector; all is left as it was, but for what is known of pieces.
 pub fn probe(
@@ -27,6 +28,8 @@ pub fn probe(
     counts: &[u64],
     visits: &[u64],
     constraints: &[u64],
+    shared: &[u64],
+    limited: &[u64],
     start: &[u64],
     near: &[u64],
     areas: &[u64],
@@ -36,7 +39,7 @@ pub fn probe(
     firsts: &[u64],
     colouring: &mut [u64],
     work: &[u64],
-    gauges: &[u64],
+    prices: &[u64],
     queue: &mut [u64],
     known: &mut [u64],
     clock: u64,
@@ -46,8 +49,9 @@ pub fn probe(
 ) -> u64
     ghost { Plan }
     requires { λ P. ⌜ planOf (length (now workloads)) sectors (now workloads) (now outside) (now edges) (now counts) (now visits) (now constraints) ≡ P ⌝ }
+    requires { λ P. ⌜ Sorted P (now shared) (now limited) ⌝ }
     requires { λ P. ⌜ Remembered (P .R) (P .S) (P .edges) (now colouring) clock (now known) ⌝ }
-    requires { λ P. ⌜ Recolouring P whole (now start) (now near) (now areas) (now colouring) (now work) (now gauges) (now queue) standing region sector ⌝ }
+    requires { λ P. ⌜ Recolouring P whole (now start) (now near) (now areas) (now colouring) (now work) (now prices) (now queue) standing region sector ⌝ }
     requires { λ P. ⌜ Flown P (now timed) (now counts) (now visits) (now visited) (now flights) (now firsts) ⌝ }
     ensures { λ P r. ⌜ Remembered (P .R) (P .S) (P .edges) (now (colouring .entry)) clock (now (known .exit)) ⌝ }
     ensures { λ P r. ⌜ r ≡ total P (recolour (now (colouring .entry)) region sector) ⌝ }
@@ -65,6 +69,7 @@ pub fn probe(
         counts,
         visits,
         constraints,
+        limited,
         start,
         near,
         areas,
@@ -74,6 +79,7 @@ pub fn probe(
         firsts,
         colouring,
         work,
+        prices,
         queue,
         known,
         clock,
@@ -81,7 +87,7 @@ pub fn probe(
         sector,
     );
     let figures = figures_after(sectors, whole, standing.figures, change);
-    total_after(constraints, figures, gauges, change)
+    total(shared, figures)
 }
 
 // Gives the region to the sector, and answers what stands then and how many labels are new.
@@ -94,6 +100,8 @@ pub fn make(
     counts: &[u64],
     visits: &[u64],
     constraints: &[u64],
+    shared: &[u64],
+    limited: &[u64],
     start: &[u64],
     near: &[u64],
     areas: &[u64],
@@ -103,7 +111,7 @@ pub fn make(
     firsts: &[u64],
     colouring: &mut [u64],
     work: &mut [u64],
-    gauges: &mut [u64],
+    prices: &mut [u64],
     queue: &mut [u64],
     standing: Standing,
     region: u64,
@@ -111,9 +119,10 @@ pub fn make(
 ) -> Made
     ghost { Plan }
     requires { λ P. ⌜ planOf (length (now workloads)) sectors (now workloads) (now outside) (now edges) (now counts) (now visits) (now constraints) ≡ P ⌝ }
-    requires { λ P. ⌜ Recolouring P whole (now start) (now near) (now areas) (now colouring) (now work) (now gauges) (now queue) standing region sector ⌝ }
+    requires { λ P. ⌜ Sorted P (now shared) (now limited) ⌝ }
+    requires { λ P. ⌜ Recolouring P whole (now start) (now near) (now areas) (now colouring) (now work) (now prices) (now queue) standing region sector ⌝ }
     requires { λ P. ⌜ Flown P (now timed) (now counts) (now visits) (now visited) (now flights) (now firsts) ⌝ }
-    ensures { λ P r. ⌜ Remade P (now (colouring .entry)) (now (work .entry)) (recolour (now (colouring .entry)) region sector) (now (colouring .exit)) (now (work .exit)) (now (gauges .exit)) r ⌝ }
+    ensures { λ P r. ⌜ Remade P (now (colouring .entry)) (now (work .entry)) (recolour (now (colouring .entry)) region sector) (now (colouring .exit)) (now (work .exit)) (now (prices .exit)) r ⌝ }
 {
     let own = colouring[region as usize - 1];
     if own == sector {
@@ -123,7 +132,7 @@ pub fn make(
         };
     }
     let regions = workloads.len();
-    let before = sides_in(work, regions, sectors, own, sector);
+    let before = sides_in(work, prices, regions, sectors, own, sector);
     let turned = turn(
         sectors,
         workloads,
@@ -132,6 +141,7 @@ pub fn make(
         counts,
         visits,
         constraints,
+        limited,
         start,
         near,
         areas,
@@ -155,9 +165,10 @@ pub fn make(
         counts,
         visits,
         constraints,
+        shared,
         colouring,
         work,
-        gauges,
+        prices,
         standing,
         own,
         sector,

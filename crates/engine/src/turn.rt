@@ -4,19 +4,23 @@ ghost use lib.ListN.{length};
 ghost use Rattle.lists.specs.Sums.{In, at};
 ghost use Rattle.meaning.specs.Plan.{Plan, planOf, flightsOf, constraintsOf};
 ghost use Rattle.meaning.specs.Joined.{labels as labelsOf};
+ghost use Rattle.meaning.specs.Prices.{limited as limitedOf};
 ghost use Rattle.meaning.specs.Moves.{recolour};
 ghost use Rattle.search.specs.Remembered.{Remembered};
 ghost use Rattle.change.specs.Changed.{sidesOf, Single};
 ghost use Rattle.visitors.specs.Visitors.{Pricing};
 ghost use Rattle.visitors.specs.AlongBoth.{VisitorsDiffer};
+ghost use Rattle.kinds.specs.Constraints.{Paying};
 ghost use Rattle.engine.specs.Memory.{Kept};
-ghost use Rattle.engine.specs.Turning.{Movable, changeOf, Turning, Turns, Followed};
+ghost use Rattle.engine.specs.Sorted.{Paid};
+ghost use Rattle.engine.specs.Turning.{Movable, Passing, paidBy, changeOf, Turning, Turns, Followed};
 ghost use Rattle.engine.specs.Flown.{Flown};
 use crate::memory::sides_in;
 use change::Change;
 use change::Pair;
 use change::Sides;
 use change::Swing;
+use kinds::price;
 use search::Look;
 use search::look_anew;
 use search::look_at;
@@ -56,11 +60,23 @@ fn swing_at(
     }
 }
 
-// What giving a region to another sector changes, by what the two sectors have before it, the region's workload, a look at the region
-// and what the flights that visit it cost.
-fn change_of(before: Sides, workload: u64, look: Look, dwell: Swing) -> Change
+// What the two sectors pay for the constraints of kind 4 once a workload has gone from the one to the other.
+fn paid(limited: &[u64], workloads: Pair, workload: u64) -> Pair
+    requires { ⌜ Paying (now limited) ⌝ }
+    requires { ⌜ Passing workloads workload ⌝ }
+    ensures { λ r. ⌜ r ≡ paidBy (constraintsOf (now (limited .entry))) workloads workload ⌝ }
+{
+    Pair {
+        old: price(limited, workloads.old - workload),
+        new: price(limited, workloads.new + workload),
+    }
+}
+
+// What giving a region to another sector changes, by what the two sectors have before it, the region's workload, what they pay after it,
+// a look at the region and what the flights that visit it cost.
+fn change_of(before: Sides, workload: u64, prices: Pair, look: Look, dwell: Swing) -> Change
     requires { ⌜ Movable before workload look ⌝ }
-    ensures { λ r. ⌜ r ≡ changeOf before workload look dwell ⌝ }
+    ensures { λ r. ⌜ r ≡ changeOf before workload prices look dwell ⌝ }
 {
     let components = before.components;
     let workloads = before.workloads;
@@ -76,6 +92,7 @@ fn change_of(before: Sides, workload: u64, look: Look, dwell: Swing) -> Change
     let after = Sides {
         components: components_after,
         workloads: workloads_after,
+        prices,
     };
     let border = Swing {
         gained: met.here,
@@ -98,6 +115,7 @@ pub fn change_at(
     counts: &[u64],
     visits: &[u64],
     constraints: &[u64],
+    limited: &[u64],
     start: &[u64],
     near: &[u64],
     areas: &[u64],
@@ -107,6 +125,7 @@ pub fn change_at(
     firsts: &[u64],
     colouring: &mut [u64],
     work: &[u64],
+    prices: &[u64],
     queue: &mut [u64],
     known: &mut [u64],
     clock: u64,
@@ -115,6 +134,7 @@ pub fn change_at(
 ) -> Change
     ghost { Plan }
     requires { λ P. ⌜ planOf (length (now workloads)) sectors (now workloads) (now outside) (now edges) (now counts) (now visits) (now constraints) ≡ P ⌝ }
+    requires { λ P. ⌜ Paid P (now colouring) (now limited) (now prices) ⌝ }
     requires { λ P. ⌜ Remembered (P .R) (P .S) (P .edges) (now colouring) clock (now known) ⌝ }
     requires { λ P. ⌜ Turning P (now start) (now near) (now areas) (now colouring) (now queue) region sector ⌝ }
     requires { λ P. ⌜ Kept P (now colouring) (now work) ⌝ }
@@ -125,7 +145,7 @@ pub fn change_at(
 {
     let regions = workloads.len();
     let v = region as usize;
-    let before = sides_in(work, regions, sectors, colouring[v - 1], sector);
+    let before = sides_in(work, prices, regions, sectors, colouring[v - 1], sector);
     let workload = workloads[v - 1];
     let look = look_at(
         edges,
@@ -141,6 +161,7 @@ pub fn change_at(
         v,
         sector,
     );
+    let after = paid(limited, before.workloads, workload);
     let dwell = swing_at(
         counts,
         visits,
@@ -152,7 +173,7 @@ pub fn change_at(
         region,
         sector,
     );
-    change_of(before, workload, look, dwell)
+    change_of(before, workload, after, look, dwell)
 }
 
 // What giving the region to another sector would change, by what the two sectors have, where the labels are not known.
@@ -164,6 +185,7 @@ pub fn change_anew(
     counts: &[u64],
     visits: &[u64],
     constraints: &[u64],
+    limited: &[u64],
     start: &[u64],
     near: &[u64],
     areas: &[u64],
@@ -179,6 +201,7 @@ pub fn change_anew(
 ) -> Change
     ghost { Plan }
     requires { λ P. ⌜ planOf (length (now workloads)) sectors (now workloads) (now outside) (now edges) (now counts) (now visits) (now constraints) ≡ P ⌝ }
+    requires { λ P. ⌜ constraintsOf (now limited) ≡ limitedOf (P .constraints) ⌝ }
     requires { λ P. ⌜ Turning P (now start) (now near) (now areas) (now colouring) (now queue) region sector ⌝ }
     requires { λ P. ⌜ before ≡ sidesOf P (now colouring) (at (now colouring) region) sector ⌝ }
     requires { λ P. ⌜ Flown P (now timed) (now counts) (now visits) (now visited) (now flights) (now firsts) ⌝ }
@@ -188,6 +211,7 @@ pub fn change_anew(
     let v = region as usize;
     let workload = workloads[v - 1];
     let look = look_anew(edges, start, near, areas, colouring, queue, v, sector);
+    let after = paid(limited, before.workloads, workload);
     let dwell = swing_at(
         counts,
         visits,
@@ -199,7 +223,7 @@ pub fn change_anew(
         region,
         sector,
     );
-    change_of(before, workload, look, dwell)
+    change_of(before, workload, after, look, dwell)
 }
 
 // What has changed, and how many labels are new.
@@ -217,6 +241,7 @@ pub fn turn(
     counts: &[u64],
     visits: &[u64],
     constraints: &[u64],
+    limited: &[u64],
     start: &[u64],
     near: &[u64],
     areas: &[u64],
@@ -233,6 +258,7 @@ pub fn turn(
 ) -> Turned
     ghost { Plan }
     requires { λ P. ⌜ planOf (length (now workloads)) sectors (now workloads) (now outside) (now edges) (now counts) (now visits) (now constraints) ≡ P ⌝ }
+    requires { λ P. ⌜ constraintsOf (now limited) ≡ limitedOf (P .constraints) ⌝ }
     requires { λ P. ⌜ Turning P (now start) (now near) (now areas) (now colouring) (now queue) region sector ⌝ }
     requires { λ P. ⌜ before ≡ sidesOf P (now colouring) (at (now colouring) region) sector ⌝ }
     requires { λ P. ⌜ now labels ≡ labelsOf (P .edges) (now colouring) ⌝ }
@@ -253,6 +279,7 @@ pub fn turn(
         v,
         sector,
     );
+    let after = paid(limited, before.workloads, workload);
     let dwell = swing_at(
         counts,
         visits,
@@ -269,7 +296,7 @@ pub fn turn(
         pieces: labelled.pieces,
         met,
     };
-    let change = change_of(before, workload, look, dwell);
+    let change = change_of(before, workload, after, look, dwell);
     Turned {
         change,
         relabelled: labelled.relabelled,

@@ -3,11 +3,11 @@
 use Prim.Native.Nat.{ℕ, _-_, _*_, _/_, _≤_, _<_, _^_}
 use native.Mathlib.Nat.{mul-le-mul}
 use native.Mathlib.Omega.{arith}
-use mathlib.Core.Path.{_≡_, ap, _∙_}
+use mathlib.Core.Path.{_≡_}
 use mathlib.Core.List.{List}
 use mathlib.Core.Bool.{Bool, not}
 use lib.Dec.{eqb}
-use lib.ListN.{length, length-map}
+use lib.ListN.{length}
 use Rattle.lists.specs.Sums.{In, sum, Every}
 use Rattle.lists.specs.SumLaws.{few-bound, every-turn}
 use Rattle.lists.specs.ListLaws.{listOf-every}
@@ -22,9 +22,9 @@ use Rattle.meaning.specs.Paths.{Ends, limits-ends}
 use Rattle.meaning.specs.Bounds.{mostLoad, mostDistance, mostBorder, count-bound, ncc-bound, load-bound, whole-bound, border-bound, deviation-bound}
 use Rattle.meaning.specs.Prices.{mostLimitTotal, mostDwellTotal}
 use Rattle.meaning.specs.PriceLaws.{limit-total-bound, dwell-total-bound}
-use Rattle.kinds.specs.Constraints.{Paying, length-constraints, constraint-every}
+use Rattle.kinds.specs.Constraints.{Paying, constraint-every}
 use Rattle.judge.specs.declared.Figures.{Figures}
-use Rattle.judge.specs.Figures.{figuresOf, verdictGaugeOf, verdictGauges, constraintCount, unweighted, violationBy, weightedBy, totalBy}
+use Rattle.judge.specs.Figures.{figuresOf, constraintCount, unweighted, violationBy, weightedBy, totalBy}
 
 -- the most that the workload of a sector can be off the balance
 abbrev pub mostGap : ℕ
@@ -116,16 +116,6 @@ module _ (P : Plan) (l : Limits P) where
           deviation = deviation-bound P l col;
           bounded = limit-total-bound l col;
           dwell = dwell-total-bound l col;
-        }
-
-    -- the figures and the gauges that the verdicts ask for
-    pub verdicts-small : (constraints : List ℕ) → P .constraints ≡ constraintsOf constraints → Small (figuresOf P col) (verdictGauges P col) constraints
-    unfolding verdictGauges
-    verdicts-small constraints e =
-        record {
-          figures = figures-small;
-          size = length-map (P .constraints) (verdictGaugeOf P col) ∙ ap length e ∙ length-constraints constraints;
-          constraint = rw e at (l .constraint);
         }
 
 -- ---- what follows for each item, and for the sums over all

@@ -43,7 +43,7 @@ row-stored l n r f =
 abbrev said : ℕ → Stepped → code.Row
 said status r = record { status = status; delta = read (r .delta); total = r .standing .total; relabelled = r .relabelled }
 
-module _ {P : Plan} {col w : List ℕ} {asked : Move} {col′ w′ gs′ : List ℕ} {r : Stepped} (l : Limits P) (a : Answered P col w asked col′ w′ gs′ r) {m : Move} (e : asked ≡ m) {st : ℕ} (s : st ≡ status asked) where
+module _ {P : Plan} {col w : List ℕ} {asked : Move} {col′ w′ ps′ : List ℕ} {r : Stepped} (l : Limits P) (a : Answered P col w asked col′ w′ ps′ r) {m : Move} (e : asked ≡ m) {st : ℕ} (s : st ≡ status asked) where
   -- it says the row of the meaning
   said-row : meant (said st r) ≡ row P col m
   unfolding row

@@ -37,28 +37,28 @@ module _ {P : Plan} {col : List ℕ} (l : Limits P) (k : Coloured P col) where
         loads-length P col,
       )
 
-  module _ {w col′ w′ gs′ : List ℕ} {s : Standing} (o : Opened P col w col′ w′ gs′ s) where
+  module _ {w col′ w′ ps′ : List ℕ} {s : Standing} (o : Opened P col w col′ w′ ps′ s) where
     -- what lies beyond the front of the work memory stays
     pub opened-beyond : drop (memoryLength P) w′ ≡ drop (memoryLength P) w
     opened-beyond = ap (drop (memoryLength P)) (o .work) ∙ drop-at (memory P col) (drop (memoryLength P) w) (memoryLength P) memory-length
 
     -- all is ready for a move
-    pub opened-ready : memoryLength P ≤ length w → Ready P col′ w′ gs′ s
+    pub opened-ready : memoryLength P ≤ length w → Ready P col′ w′ ps′ s
     opened-ready room =
         rw (o .colouring)
         (record {
           coloured = k;
           room = omega (arith, ap length (o .work), length-append (memory P col) (drop (memoryLength P) w), memory-length);
           work = rw (o .work) (take-at (memory P col) (drop (memoryLength P) w) (memoryLength P) memory-length);
-          gauges = o .gauges;
+          prices = o .prices;
           standing = o .standing;
         })
 
 -- after a move all stands as a first judgement of the colouring after it would leave it
-pub answered-opened : {P : Plan} {col w : List ℕ} {asked : Move} {col′ w′ gs′ : List ℕ} {r : Stepped} → Answered P col w asked col′ w′ gs′ r
-    → {m : Move} → asked ≡ m → Opened P (next col m) w col′ w′ gs′ (r .standing)
+pub answered-opened : {P : Plan} {col w : List ℕ} {asked : Move} {col′ w′ ps′ : List ℕ} {r : Stepped} → Answered P col w asked col′ w′ ps′ r
+    → {m : Move} → asked ≡ m → Opened P (next col m) w col′ w′ ps′ (r .standing)
 answered-opened a e =
-    rw (← e) (record { colouring = a .colouring; work = a .work; gauges = a .gauges; standing = a .standing })
+    rw (← e) (record { colouring = a .colouring; work = a .work; prices = a .prices; standing = a .standing })
 
 -- before the first move no pieces are remembered
 pub remembered-start : {P : Plan} {col : List ℕ} → Limits P → Coloured P col → Remembered (P .R) (P .S) (P .edges) col 0 (replicate (mostRegions + mostSectors) 0)

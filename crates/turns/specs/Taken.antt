@@ -46,18 +46,23 @@ every-coloured P (m ∷ ms) col i k = every-coloured P ms (next col m) (i .1) (c
 pub coloured-last : {P : Plan} {col : List ℕ} (xs : List ℕ) → Coloured P col → Coloured P (last col (movesOf P xs))
 coloured-last {P} {col} xs k = every-coloured P (movesOf P xs) col (moves-within P xs) k
 
+-- where all is ready, and all moves of a flat list are taken, all is ready again
+pub moved-ready : {P : Plan} {col w ps : List ℕ} {s : Standing} (xs : List ℕ) → Limits P → Ready P col w ps s
+    → {col′ w′ ps′ : List ℕ} {s′ : Standing} → Opened P (last col (movesOf P xs)) w col′ w′ ps′ s′ → Ready P col′ w′ ps′ s′
+moved-ready xs l r o = opened-ready l (coloured-last xs (r .coloured)) o (r .room)
+
 -- ---- some of the moves
 
 -- after the moves before index k: all is ready, and the moves that are left lead to the last colouring and, with their rows put down from row k on, to the rows of all
-pub record Taken (P : Plan) (xs : List ℕ) (col₀ w₀ : List ℕ) (rs₀ : List ℤ) (k : ℕ) (col w gs : List ℕ) (s : Standing) (rs : List ℤ) : Type 0 where
-  pub ready : Ready P col w gs s
+pub record Taken (P : Plan) (xs : List ℕ) (col₀ w₀ : List ℕ) (rs₀ : List ℤ) (k : ℕ) (col w ps : List ℕ) (s : Standing) (rs : List ℤ) : Type 0 where
+  pub ready : Ready P col w ps s
   pub beyond : drop (memoryLength P) w ≡ drop (memoryLength P) w₀
   pub last : last col (drop k (movesOf P xs)) ≡ last col₀ (movesOf P xs)
   pub rows : sets rs (rowLength * k) (rows P col (drop k (movesOf P xs))) ≡ rows P col₀ (movesOf P xs) ++ drop (rowLength * moveCount xs) rs₀
 
 module _ {P : Plan} {xs : List ℕ} {col₀ w₀ : List ℕ} {rs₀ : List ℤ} where
   -- before the first move
-  pub taken-start : {gs : List ℕ} {s : Standing} → Ready P col₀ w₀ gs s → rowLength * moveCount xs ≤ length rs₀ → Taken P xs col₀ w₀ rs₀ 0 col₀ w₀ gs s rs₀
+  pub taken-start : {ps : List ℕ} {s : Standing} → Ready P col₀ w₀ ps s → rowLength * moveCount xs ≤ length rs₀ → Taken P xs col₀ w₀ rs₀ 0 col₀ w₀ ps s rs₀
   taken-start r room =
       let e : length (rows P col₀ (movesOf P xs)) ≡ rowLength * moveCount xs = length-rows P col₀ (movesOf P xs) ∙ rw (length-moves P xs) in
       record {
@@ -67,10 +72,10 @@ module _ {P : Plan} {xs : List ℕ} {col₀ w₀ : List ℕ} {rs₀ : List ℤ} 
         rows = sets-eq (rows P col₀ (movesOf P xs)) rs₀ 0 (omega arith) ∙ rw (zero-add, e);
       }
 
-  module _ {k : ℕ} {col w gs : List ℕ} {s : Standing} {rs : List ℤ} (t : Taken P xs col₀ w₀ rs₀ k col w gs s rs) where
+  module _ {k : ℕ} {col w ps : List ℕ} {s : Standing} {rs : List ℤ} (t : Taken P xs col₀ w₀ rs₀ k col w ps s rs) where
     -- one move more, and its row
-    pub taken-turn : {col′ w′ gs′ : List ℕ} {s′ : Standing} {rs′ : List ℤ} → Limits P → k < moveCount xs → Opened P (next col (moveAt P xs k)) w col′ w′ gs′ s′
-        → rs′ ≡ sets rs (rowLength * k) (cells (row P col (moveAt P xs k))) → Taken P xs col₀ w₀ rs₀ (k + 1) col′ w′ gs′ s′ rs′
+    pub taken-turn : {col′ w′ ps′ : List ℕ} {s′ : Standing} {rs′ : List ℤ} → Limits P → k < moveCount xs → Opened P (next col (moveAt P xs k)) w col′ w′ ps′ s′
+        → rs′ ≡ sets rs (rowLength * k) (cells (row P col (moveAt P xs k))) → Taken P xs col₀ w₀ rs₀ (k + 1) col′ w′ ps′ s′ rs′
     unfolding last rows
     taken-turn {rs′ = rs′} l h o p =
         let m = moveAt P xs k in
@@ -85,7 +90,7 @@ module _ {P : Plan} {xs : List ℕ} {col₀ w₀ : List ℕ} {rs₀ : List ℤ} 
         }
 
     -- after the last move: all stands as a first judgement of the last colouring would leave it, and the rows are put down
-    pub taken-end : moveCount xs ≤ k → Opened P (last col₀ (movesOf P xs)) w₀ col w gs s × (rs ≡ rows P col₀ (movesOf P xs) ++ drop (rowLength * moveCount xs) rs₀)
+    pub taken-end : moveCount xs ≤ k → Opened P (last col₀ (movesOf P xs)) w₀ col w ps s × (rs ≡ rows P col₀ (movesOf P xs) ++ drop (rowLength * moveCount xs) rs₀)
     unfolding last rows
     taken-end h =
         let d = drop-of-length-le (movesOf P xs) {i = k} (rw (length-moves P xs) h) in
@@ -94,7 +99,7 @@ module _ {P : Plan} {xs : List ℕ} {col₀ w₀ : List ℕ} {rs₀ : List ℤ} 
               (record {
                 colouring = refl;
                 work = sym (take-append-drop (memoryLength P) w) ∙ rw (t .ready .work, t .beyond);
-                gauges = t .ready .gauges;
+                prices = t .ready .prices;
                 standing = t .ready .standing;
               }),
           rw d at (t .rows),

@@ -10,6 +10,8 @@ ghost use Rattle.meaning.specs.Moves.{moveLength, rowLength, moveAt, movesOf, n
 ghost use Rattle.meaning.specs.Moves as meaning;
 ghost use Rattle.search.specs.Remembered.{Remembered};
 ghost use Rattle.engine.specs.State.{Setting, Ready, Opened};
+ghost use Rattle.kinds.specs.Paid.{weightsOf};
+ghost use Rattle.engine.specs.Sorted.{Sorted};
 ghost use Rattle.engine.specs.Flown.{Flown};
 
 mod rows; // rows.rt: a row, and where it is put down
@@ -17,6 +19,8 @@ mod rows; // rows.rt: a row, and where it is put down
 use crate::rows::Row;
 use crate::rows::put_row;
 use engine::Standing;
+use kinds::Weights;
+use kinds::weights_of;
 use terms::Move;
 use terms::limits::MOST_REGIONS;
 use terms::limits::MOST_SECTORS;
@@ -52,6 +56,9 @@ fn turn(
     counts: &[u64],
     visits: &[u64],
     constraints: &[u64],
+    shared: &[u64],
+    limited: &[u64],
+    weights: Weights,
     start: &[u64],
     near: &[u64],
     areas: &[u64],
@@ -63,7 +70,7 @@ fn turn(
     k: usize,
     colouring: &mut [u64],
     work: &mut [u64],
-    gauges: &mut [u64],
+    prices: &mut [u64],
     queue: &mut [u64],
     known: &mut [u64],
     rows: &mut [i64],
@@ -71,15 +78,16 @@ fn turn(
 ) -> Standing
     ghost { Plan }
     requires { λ P. ⌜ planOf (length (now workloads)) sectors (now workloads) (now outside) (now edges) (now counts) (now visits) (now constraints) ≡ P ⌝ }
+    requires { λ P. ⌜ Sorted P (now shared) (now limited) × (weights ≡ weightsOf (P .constraints)) ⌝ }
     requires { λ P. ⌜ Remembered (P .R) (P .S) (P .edges) (now colouring) k (now known) ⌝ }
     requires { λ P. ⌜ k < mostMoves ⌝ }
     requires { λ P. ⌜ Setting P whole (now start) (now near) (now areas) (now queue) ⌝ }
-    requires { λ P. ⌜ Ready P (now colouring) (now work) (now gauges) standing ⌝ }
+    requires { λ P. ⌜ Ready P (now colouring) (now work) (now prices) standing ⌝ }
     requires { λ P. ⌜ moveLength * k + moveLength ≤ length (now moves) ⌝ }
     requires { λ P. ⌜ rowLength * k + rowLength ≤ length (now rows) ⌝ }
     requires { λ P. ⌜ Flown P (now timed) (now counts) (now visits) (now visited) (now flights) (now firsts) ⌝ }
     ensures { λ P r. ⌜ Remembered (P .R) (P .S) (P .edges) (next (now (colouring .entry)) (moveAt P (now (moves .entry)) k)) (k + 1) (now (known .exit)) ⌝ }
-    ensures { λ P r. ⌜ Opened P (next (now (colouring .entry)) (moveAt P (now (moves .entry)) k)) (now (work .entry)) (now (colouring .exit)) (now (work .exit)) (now (gauges .exit)) r ⌝ }
+    ensures { λ P r. ⌜ Opened P (next (now (colouring .entry)) (moveAt P (now (moves .entry)) k)) (now (work .entry)) (now (colouring .exit)) (now (work .exit)) (now (prices .exit)) r ⌝ }
     ensures { λ P r. ⌜ now (rows .exit) ≡ sets (now (rows .entry)) (rowLength * k) (cells (row P (now (colouring .entry)) (moveAt P (now (moves .entry)) k))) ⌝ }
 {
     let at = MOVE_LENGTH * k;
@@ -99,6 +107,9 @@ fn turn(
         counts,
         visits,
         constraints,
+        shared,
+        limited,
+        weights,
         start,
         near,
         areas,
@@ -108,7 +119,7 @@ fn turn(
         firsts,
         colouring,
         work,
-        gauges,
+        prices,
         queue,
         known,
         k as u64,
@@ -137,6 +148,8 @@ pub fn all_moves(
     counts: &[u64],
     visits: &[u64],
     constraints: &[u64],
+    shared: &[u64],
+    limited: &[u64],
     start: &[u64],
     near: &[u64],
     areas: &[u64],
@@ -147,23 +160,28 @@ pub fn all_moves(
     moves: &[u64],
     colouring: &mut [u64],
     work: &mut [u64],
-    gauges: &mut [u64],
+    prices: &mut [u64],
     queue: &mut [u64],
     rows: &mut [i64],
     first: Standing,
 ) -> Standing
     ghost { Plan }
     requires { λ P. ⌜ planOf (length (now workloads)) sectors (now workloads) (now outside) (now edges) (now counts) (now visits) (now constraints) ≡ P ⌝ }
+    requires { λ P. ⌜ Sorted P (now shared) (now limited) ⌝ }
     requires { λ P. ⌜ length (now moves) / moveLength ≤ mostMoves ⌝ }
     requires { λ P. ⌜ Setting P whole (now start) (now near) (now areas) (now queue) ⌝ }
-    requires { λ P. ⌜ Ready P (now colouring) (now work) (now gauges) first ⌝ }
+    requires { λ P. ⌜ Ready P (now colouring) (now work) (now prices) first ⌝ }
     requires { λ P. ⌜ rowLength * (length (now moves) / moveLength) ≤ length (now rows) ⌝ }
     requires { λ P. ⌜ Flown P (now timed) (now counts) (now visits) (now visited) (now flights) (now firsts) ⌝ }
-    ensures { λ P r. ⌜ Opened P (last (now (colouring .entry)) (movesOf P (now (moves .entry)))) (now (work .entry)) (now (colouring .exit)) (now (work .exit)) (now (gauges .exit)) r ⌝ }
+    ensures { λ P r. ⌜ Opened P (last (now (colouring .entry)) (movesOf P (now (moves .entry)))) (now (work .entry)) (now (colouring .exit)) (now (work .exit)) (now (prices .exit)) r ⌝ }
     ensures { λ P r. ⌜ now (rows .exit) ≡ meaning.rows P (now (colouring .entry)) (movesOf P (now (moves .entry))) ++ drop (rowLength * (length (now (moves .entry)) / moveLength)) (now (rows .entry)) ⌝ }
 {
-    let mut known = [0u64; (MOST_REGIONS + MOST_SECTORS) as usize];
     let n = moves.len() / MOVE_LENGTH;
+    if n == 0 {
+        return first;
+    }
+    let weights = weights_of(constraints);
+    let mut known = [0u64; (MOST_REGIONS + MOST_SECTORS) as usize];
     let mut standing = first;
     let mut k = 0;
     while k < n {
@@ -176,6 +194,9 @@ pub fn all_moves(
             counts,
             visits,
             constraints,
+            shared,
+            limited,
+            weights,
             start,
             near,
             areas,
@@ -187,7 +208,7 @@ pub fn all_moves(
             k,
             colouring,
             work,
-            gauges,
+            prices,
             queue,
             &mut known,
             rows,

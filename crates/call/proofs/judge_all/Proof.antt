@@ -3,52 +3,82 @@ use native.Mathlib.Omega.{arith}
 use mathlib.Core.Path.{refl, _∙_}
 use borrow.Author.Needs.{needs}
 use lib.ListN.{length-set}
-use Rattle.kinds.specs.Constraints.{length-constraints}
 use Rattle.turns.specs.StateLaws.{setting-queue, opened-ready}
-use Rattle.call.specs.Promised.{flown-flying, opened-small, ran-by}
+use Rattle.turns.specs.Taken.{moved-ready}
+use Rattle.call.specs.Concluding.{ready-concluding}
+use Rattle.call.specs.Promised.{ran-by}
 use Rattle.call.proofs.judge_all.Statement.{statement}
 use Rattle.call.proofs.judge_all.Tie as tie
 
+-- from where the figures are known to where the moves were taken, from there to where the colouring was judged first, and to where all began
+abbrev moved : tie.After-figures → tie.After-all-moves
+moved c = c .before .before .before .before .before .before .before .before .before .before
+
+abbrev judged : tie.After-all-moves → tie.After-begin
+judged c = c .before .before .before .before .before .before .before .before .before .before .before .before .before .before
+
+abbrev began : tie.After-begin → tie.Start
+began c = c .before .before .before .before .before .before .before .before .before .before .before .before .before .before .before .before .before .before .before .before .before .before .before .before .before .before
+
 begin-requires : tie.Need-begin-requires
-begin-requires c κs = let s = c .before .before .before .before .before .before .before .before .before .before .before .before .before .before .before .before .before .before .before .before .before .before .before .pre .1 in (s .0, (s .1 .0, s .1 .1 .priced))
+begin-requires c κs =
+    let s = c .before .before .before .before .before .before .before .before .before .before .before .before .before .before .before .before .before .before .before .before .before .before .before .before .before .pre .1 in
+    (s .0, (s .1 .0, (s .1 .1 .0, s .1 .1 .1 .priced)))
 
 all-moves-requires : tie.Need-all-moves-requires
 all-moves-requires c κs =
-    let b = c .before .before .before .before .before .before .before .before .before .before .before .before .before .begin in
-    let s = c .before .before .before .before .before .before .before .before .before .before .before .before .before .before .before .before .before .before .before .before .before .before .before .before .before .before .before .before .before .before .before .before .before .before .before .before .before .pre in
+    let b = c .before .before .before .before .before .before .before .before .before .before .before .before .before in
+    let s = began b .pre in
     let v = s .0 in
-    let ready = opened-ready (v .plan .limits) (v .plan .coloured) (b .ensures) (s .1 .1 .0 .room) in
-    (v .moves-few, (setting-queue (s .1 .0) (b .kept .1 .1 .1 .1 .1 .1 .1 .1 .1 .1 .1 .1 .1 .1 .1 .0), (ready, (v .rows-room, s .1 .1 .1))))
+    let t = s .1 .1 in
+    let ready = opened-ready (v .plan .limits) (v .plan .coloured) (b .begin .ensures) (t .1 .0 .room) in
+    (s .1 .0, (v .moves-few, (setting-queue (t .0) (b .begin .kept .1 .1 .1 .1 .1 .1 .1 .1 .1 .1 .1 .1 .1 .1 .1 .1 .1 .0), (ready, (v .rows-room, t .1 .1)))))
 
-gauge-dwells-requires : tie.Need-gauge-dwells-requires
-gauge-dwells-requires c κs =
-    let b = c .before .before .before .before .before .before .before .before .before .before .before .before .before .before .before .before .before .before .before .before .before .before .before .before .before .begin in
-    let m = c .before .before .before .before .before .before .before .before .before .before .before .all-moves in
-    let s = c .before .before .before .before .before .before .before .before .before .before .before .before .before .before .before .before .before .before .before .before .before .before .before .before .before .before .before .before .before .before .before .before .before .before .before .before .before .before .before .before .before .before .before .before .before .before .before .before .before .pre in (
-      s .0 .plan .limits .constraint,
-      (
-        m .kept .1 .1 .1 .1 .1 .1 .1 .1 .1 .1 .1 .1 .1 .1 .1 .1 .1 .1 .0 ∙ b .kept .1 .1 .1 .1 .1 .1 .1 .1 .1 .1 .1 .1 .1 .1 .0 ∙ s .1 .1 .0 .gauges ∙ length-constraints (c .before .before .before .before .before .before .before .before .before .before .before .before .before .before .before .before .before .before .before .before .before .before .before .before .before .before .before .before .before .before .before .before .before .before .before .before .before .before .before .before .before .before .before .before .before .before .before .before .before .args .constraints .now),
-        flown-flying (s .1 .1 .1) (m .kept .1 .1 .1 .1 .1 .1 .1 .1 .1 .1 .1 .1 .1 .1 .1 .1 .0 ∙ b .kept .1 .1 .1 .1 .1 .1 .1 .1 .1 .1 .1 .1 .0 ∙ s .0 .plan .coloured .size),
-      ),
-    )
-
-put-verdicts-requires : tie.Need-put-verdicts-requires
-put-verdicts-requires c κs = let v = c .before .before .before .before .before .before .before .before .before .before .before .before .before .before .before .before .before .before .before .before .before .before .before .before .before .before .before .before .before .before .before .before .before .before .before .before .before .before .before .before .before .before .before .before .before .before .before .before .before .before .before .before .before .before .before .pre .0 in (opened-small _ refl (c .before .before .before .before .before .before .before .before .before .before .before .before .before .before .before .before .before .all-moves .ensures .0) (c .before .before .before .before .before .gauge-dwells .ensures) (v .plan .limits), v .verdicts-room)
-
-mul-at : tie.Need-mul-at
-mul-at c = omega (arith, c .before .before .before .before .before .before .before .before .before .before .before .before .before .before .before .before .before .before .before .before .before .before .before .before .before .before .before .before .before .before .before .before .before .before .before .before .before .before .before .before .before .before .before .before .before .before .before .before .before .before .before .before .before .before .before .before .before .before .pre .0 .plan .limits .S)
+add-counts-end : tie.Need-add-counts-end
+add-counts-end c = let l = began (judged (moved c)) .pre .0 .plan .limits in omega (arith, l .S, l .R)
 
 add-at : tie.Need-add-at
-add-at c = omega (arith, c .before .before .before .before .before .before .before .before .before .before .before .before .before .before .before .before .before .before .before .before .before .before .before .before .before .before .before .before .before .before .before .before .before .before .before .before .before .before .before .before .before .before .before .before .before .before .before .before .before .before .before .before .before .before .before .before .before .before .pre .0 .plan .limits .S, c .before .before .before .before .before .before .before .before .before .before .before .before .before .before .before .before .before .before .before .before .before .before .before .before .before .before .before .before .before .before .before .before .before .before .before .before .before .before .before .before .before .before .before .before .before .before .before .before .before .before .before .before .before .before .before .before .before .before .pre .0 .plan .limits .R)
+add-at c = let l = began (judged (moved c)) .pre .0 .plan .limits in omega (arith, l .S, l .R)
+
+mul-conclude : tie.Need-mul-conclude
+mul-conclude c = let l = began (judged (moved c)) .pre .0 .plan .limits in omega (arith, l .S, l .R)
+
+sub-conclude : tie.Need-sub-conclude
+sub-conclude c = search needs
+
+part-conclude-start : tie.Need-part-conclude-start
+part-conclude-start c = search needs
+
+part-conclude-end : tie.Need-part-conclude-end
+part-conclude-end c =
+    let m = moved (c .before) in
+    let b = judged m in
+    omega (arith, m .all-moves .kept .1 .1 .1 .1 .1 .1 .1 .1 .1 .1 .1 .1 .1 .1 .1 .1 .1 .1 .1 .0, b .begin .kept .1 .1 .1 .1 .1 .1 .1 .1 .1 .1 .1 .1 .1 .1 .1 .0, began b .pre .0 .work-room)
+
+conclude-requires : tie.Need-conclude-requires
+conclude-requires c κs =
+    let m = moved (c .before .before .before .before) in
+    let b = judged m in
+    let st = began b in
+    let v = st .pre .0 in
+    let l = v .plan .limits in
+    let ready = opened-ready l (v .plan .coloured) (b .begin .ensures) (st .pre .1 .1 .1 .0 .room) in
+    (ready-concluding l (moved-ready (st .args .moves .now) l ready (m .all-moves .ensures .0)) (st .args .constraints .now) refl (st .pre .1 .1 .1 .1 .priced .flying), v .verdicts-room)
 
 mul-work : tie.Need-mul-work
-mul-work c = omega (arith, c .before .before .before .before .before .before .before .before .before .before .before .before .before .before .before .before .before .before .before .before .before .before .before .before .before .before .before .before .before .before .before .before .before .before .before .before .before .before .before .before .before .before .before .before .before .before .before .before .before .before .before .before .before .before .before .before .before .before .pre .0 .plan .limits .S, c .before .before .before .before .before .before .before .before .before .before .before .before .before .before .before .before .before .before .before .before .before .before .before .before .before .before .before .before .before .before .before .before .before .before .before .before .before .before .before .before .before .before .before .before .before .before .before .before .before .before .before .before .before .before .before .before .before .before .pre .0 .plan .limits .R)
+mul-work c = let l = began (judged (moved (c .before .before .before .before .before .before .before))) .pre .0 .plan .limits in omega (arith, l .S, l .R)
 
 slice-write-work : tie.Need-slice-write-work
-slice-write-work c = omega (arith, c .before .before .before .before .before .before .before .before .before .before .before .before .before .before .before .before .before .before .before .before .all-moves .kept .1 .1 .1 .1 .1 .1 .1 .1 .1 .1 .1 .1 .1 .1 .1 .1 .1 .0, c .before .before .before .before .before .before .before .before .before .before .before .before .before .before .before .before .before .before .before .before .before .before .before .before .before .before .before .before .before .before .before .before .before .before .begin .kept .1 .1 .1 .1 .1 .1 .1 .1 .1 .1 .1 .1 .1 .0, c .before .before .before .before .before .before .before .before .before .before .before .before .before .before .before .before .before .before .before .before .before .before .before .before .before .before .before .before .before .before .before .before .before .before .before .before .before .before .before .before .before .before .before .before .before .before .before .before .before .before .before .before .before .before .before .before .before .before .pre .0 .work-room)
+slice-write-work c =
+    let m = moved (c .before .before .before .before .before .before .before) in
+    let b = judged m in
+    omega (arith, m .all-moves .kept .1 .1 .1 .1 .1 .1 .1 .1 .1 .1 .1 .1 .1 .1 .1 .1 .1 .1 .1 .0, b .begin .kept .1 .1 .1 .1 .1 .1 .1 .1 .1 .1 .1 .1 .1 .1 .1 .0, began b .pre .0 .work-room)
 
 same-length : tie.Need-same-length
-same-length c = c .before .before .before .before .before .before .before .before .before .before .before .before .before .before .before .before .before .before .before .before .all-moves .kept .1 .1 .1 .1 .1 .1 .1 .1 .1 .1 .1 .1 .1 .1 .1 .1 .0 ∙ c .before .before .before .before .before .before .before .before .before .before .before .before .before .before .before .before .before .before .before .before .before .before .before .before .before .before .before .before .before .before .before .before .before .before .begin .kept .1 .1 .1 .1 .1 .1 .1 .1 .1 .1 .1 .1 .0
+same-length c =
+    let m = moved (c .before .before .before .before .before .before .before) in
+    let b = judged m in
+    m .all-moves .kept .1 .1 .1 .1 .1 .1 .1 .1 .1 .1 .1 .1 .1 .1 .1 .1 .1 .1 .0 ∙ b .begin .kept .1 .1 .1 .1 .1 .1 .1 .1 .1 .1 .1 .1 .1 .1 .0
 
 same-length-2 : tie.Need-same-length-2
 same-length-2 c = search needs
@@ -57,18 +87,23 @@ same-length-3 : tie.Need-same-length-3
 same-length-3 c = search needs
 
 same-length-4 : tie.Need-same-length-4
-same-length-4 c = simp length-set (c .before .before .before .before .before .before .before .before .before .before .before .before .before .before .before .before .before .before .before .before .all-moves .kept .1 .1 .1 .1 .1 .1 .1 .1 .1 .1 .1 .1 .1 .1 .1 .1 .1 .0 ∙ c .before .before .before .before .before .before .before .before .before .before .before .before .before .before .before .before .before .before .before .before .before .before .before .before .before .before .before .before .before .before .before .before .before .before .begin .kept .1 .1 .1 .1 .1 .1 .1 .1 .1 .1 .1 .1 .1 .0)
+same-length-4 c =
+    let m = moved (c .before .before .before .before .before .before .before) in
+    let b = judged m in
+    simp length-set (m .all-moves .kept .1 .1 .1 .1 .1 .1 .1 .1 .1 .1 .1 .1 .1 .1 .1 .1 .1 .1 .1 .0 ∙ b .begin .kept .1 .1 .1 .1 .1 .1 .1 .1 .1 .1 .1 .1 .1 .1 .1 .0)
 
 same-length-5 : tie.Need-same-length-5
-same-length-5 c = c .before .before .before .before .before .before .before .before .gauge-dwells .kept .1 .1 .1 .1 .0 ∙ c .before .before .before .before .before .before .before .before .before .before .before .before .before .before .before .before .before .before .before .before .all-moves .kept .1 .1 .1 .1 .1 .1 .1 .1 .1 .1 .1 .1 .1 .1 .1 .1 .1 .1 .0 ∙ c .before .before .before .before .before .before .before .before .before .before .before .before .before .before .before .before .before .before .before .before .before .before .before .before .before .before .before .before .before .before .before .before .before .before .begin .kept .1 .1 .1 .1 .1 .1 .1 .1 .1 .1 .1 .1 .1 .1 .0
+same-length-5 c = search needs
 
 same-length-6 : tie.Need-same-length-6
 same-length-6 c = search needs
 
 returns : tie.Need-returns
 returns c =
-    let m = c .before .before .before .before .before .before .before .before .before .before .before .before .before .before .before .before .before .before .before .before .all-moves .ensures in
-    ran-by _ (c .before .before .before .before .before .before .before .before .before .before .before .before .before .before .before .before .before .before .before .before .before .before .before .before .before .before .before .before .before .before .before .before .before .before .before .before .before .before .before .before .before .before .before .before .before .before .before .before .before .before .before .before .before .before .before .before .before .before .pre .0) (c .before .before .before .before .before .before .before .before .before .before .before .before .before .before .before .before .before .before .before .before .before .before .before .before .before .before .before .before .before .before .before .before .before .before .begin .ensures) (m .0) (c .before .before .before .before .before .before .before .before .gauge-dwells .ensures) (m .1) (c .before .before .put-verdicts .ensures)
+    let m = moved (c .before .before .before .before .before .before .before) in
+    let b = judged m in
+    let moves = m .all-moves .ensures in
+    ran-by _ (began b .pre .0) (b .begin .ensures) (moves .0) (moves .1) (c .before .before .conclude .ensures)
 
 pub judge-all-spec : {M : Type 1} → statement M
 judge-all-spec =
@@ -76,10 +111,13 @@ judge-all-spec =
     (tie.spec
     begin-requires
     all-moves-requires
-    gauge-dwells-requires
-    put-verdicts-requires
-    mul-at
+    add-counts-end
     add-at
+    mul-conclude
+    sub-conclude
+    part-conclude-start
+    part-conclude-end
+    conclude-requires
     mul-work
     slice-write-work
     same-length

@@ -12,26 +12,40 @@ use Rattle.turns.proofs.all_moves.Statement.{statement}
 use Rattle.turns.proofs.all_moves.Tie as tie
 
 abbrev Inv-loop : tie.InvT-loop
-Inv-loop sectors whole workloads outside edges counts visits constraints start near areas timed visited flights firsts moves colouring₀ work₀ gauges₀ queue₀ rows₀ known₀ n standing₀ k₀ colouring work gauges queue rows known standing k =
-    Taken (planOf (length workloads) sectors workloads outside edges counts visits constraints) moves colouring₀ work₀ rows₀ k colouring work gauges standing rows
+Inv-loop sectors whole workloads outside edges counts visits constraints shared limited start near areas timed visited flights firsts moves colouring₀ work₀ prices₀ queue₀ rows₀ n weights known₀ standing₀ k₀ colouring work prices queue rows known standing k =
+    Taken (planOf (length workloads) sectors workloads outside edges counts visits constraints) moves colouring₀ work₀ rows₀ k colouring work prices standing rows
     × (length colouring ≡ length colouring₀)
     × (length work ≡ length work₀)
-    × (length gauges ≡ length gauges₀)
+    × (length prices ≡ length prices₀)
     × (length queue ≡ length queue₀)
     × (length rows ≡ length rows₀)
     × Remembered (length workloads) sectors (edgesOf edges) colouring k known
     × (length known ≡ mostRegions + mostSectors)
 
 abbrev μ-loop : tie.MeasureT-loop
-μ-loop sectors whole workloads outside edges counts visits constraints start near areas timed visited flights firsts moves colouring₀ work₀ gauges₀ queue₀ rows₀ known₀ n standing₀ k₀ colouring work gauges queue rows known standing k = n - k
+μ-loop sectors whole workloads outside edges counts visits constraints shared limited start near areas timed visited flights firsts moves colouring₀ work₀ prices₀ queue₀ rows₀ n weights known₀ standing₀ k₀ colouring work prices queue rows known standing k = n - k
 
--- from inside the loop to where all began
+-- from where the slices are known, and from inside the loop, to where the constraints were weighed and to where all began
+abbrev given : tie.After-slice-known4 Inv-loop μ-loop → tie.Start Inv-loop μ-loop
+given c = c .before .before .before .before .before .before .before .before .before .before .before .before .before .before .before .before .before .before .before .before
+
+abbrev weighed : tie.In-loop Inv-loop μ-loop → tie.After-weights-of Inv-loop μ-loop
+weighed c = c .before .before
+
 abbrev began : tie.In-loop Inv-loop μ-loop → tie.Start Inv-loop μ-loop
-began c = c .before .before .before .before .before .before .before .before .before .before .before .before .before .before .before .before .before .before .before .before
+began c = given (weighed c .before .before)
+
+returns : tie.Need-returns Inv-loop μ-loop
+returns c =
+    let s = given (c .before) .pre .1 .1 in
+    taken-end (taken-start (s .1 .0) (s .1 .1 .0)) (omega (arith, c .if1 .taken))
+
+weights-of-requires : tie.Need-weights-of-requires Inv-loop μ-loop
+weights-of-requires c κs = let l = given (c .before) .pre .1 .1 .0 .limits in record { few = l .constraints; constraint = l .constraint }
 
 loop-holds : tie.Need-loop-holds Inv-loop μ-loop
 loop-holds c =
-    let s = c .before .before .before .before .before .before .before .before .before .before .before .before .before .before .before .before .before .before .pre .1 in
+    let s = given (c .before .before) .pre .1 .1 in
     (taken-start (s .1 .0) (s .1 .1 .0), refl, refl, refl, refl, refl, remembered-start (s .0 .limits) (s .1 .0 .coloured), length-replicate {A = ℕ} (mostRegions + mostSectors) 0)
 
 slice-aggregate-turn : tie.Need-slice-aggregate-turn Inv-loop μ-loop
@@ -42,14 +56,14 @@ turn-requires c κs =
     let l = c .before .before .before .before .before .before in
     let i = l .before .loop .inv in
     let taken = l .loop-test .taken in
-    let few = began l .pre .0 in
-    let s = began l .pre .1 in
-    (i .6, (omega (arith, taken, few), (setting-queue (s .0) (i .4), (i .0 .ready, (omega (arith, taken), (omega (arith, taken, s .1 .1 .0, i .5), s .1 .1 .1))))))
+    let few = began l .pre .1 .0 in
+    let s = began l .pre .1 .1 in
+    ((began l .pre .0, weighed l .weights-of .ensures), (i .6, (omega (arith, taken, few), (setting-queue (s .0) (i .4), (i .0 .ready, (omega (arith, taken), (omega (arith, taken, s .1 .1 .0, i .5), s .1 .1 .1)))))))
 
 add-k : tie.Need-add-k Inv-loop μ-loop
 add-k c =
     let l = c .before .before .before .before .before .before .before .before .before .before .before .before .before .before .before .before .before in
-    omega (arith, l .loop-test .taken, began l .good .1 .1 .1 .1 .1 .1 .1 .1 .1 .1 .1 .1 .1 .1 .1 .0)
+    omega (arith, l .loop-test .taken, began l .good .1 .1 .1 .1 .1 .1 .1 .1 .1 .1 .1 .1 .1 .1 .1 .1 .1 .1 .0)
 
 loop-less : tie.Need-loop-less Inv-loop μ-loop
 loop-less c = search needs
@@ -58,7 +72,7 @@ loop-again : tie.Need-loop-again Inv-loop μ-loop
 loop-again c =
     let t = c .before .before .before .before .before .before .before .before .before .before .turn in
     let l = c .before .before .before .before .before .before .before .before .before .before .before .before .before .before .before .before .before in (
-      taken-turn (l .before .loop .inv .0) (began l .pre .1 .0 .limits) (l .loop-test .taken) (t .ensures .1 .0) (t .ensures .1 .1),
+      taken-turn (l .before .loop .inv .0) (began l .pre .1 .1 .0 .limits) (l .loop-test .taken) (t .ensures .1 .0) (t .ensures .1 .1),
       search needs,
       search needs,
       search needs,
@@ -83,8 +97,8 @@ same-length-4 c = search needs
 same-length-5 : tie.Need-same-length-5 Inv-loop μ-loop
 same-length-5 c = search needs
 
-returns : tie.Need-returns Inv-loop μ-loop
-returns c = taken-end (c .before .loop .inv .0) (c .loop-test .left)
+returns-2 : tie.Need-returns-2 Inv-loop μ-loop
+returns-2 c = taken-end (c .before .loop .inv .0) (c .loop-test .left)
 
 pub all-moves-spec : {M : Type 1} → statement M
 all-moves-spec =
@@ -92,6 +106,8 @@ all-moves-spec =
     (tie.spec
     Inv-loop
     μ-loop
+    returns
+    weights-of-requires
     loop-holds
     slice-aggregate-turn
     turn-requires
@@ -103,4 +119,4 @@ all-moves-spec =
     same-length-3
     same-length-4
     same-length-5
-    returns)
+    returns-2)

@@ -15,38 +15,38 @@ abbrev made : tie.After-step → tie.After-new
 made c = c .before .before .before .before .before .before
 
 abbrev began : tie.After-new → tie.Start
-began c = c .before .before .before .before .before .before .before .before .before .before .before .before .before .before .before .before .before .before .before .before .before .before .before
+began c = c .before .before .before .before .before .before .before .before .before .before .before .before .before .before .before .before .before .before .before .before .before .before .before .before .before
 
 -- from where the move is read to where all began
 abbrev given : tie.After-slice-known5 → tie.Start
-given c = c .before .before .before .before .before .before .before .before .before .before .before .before .before .before .before .before .before .before .before
+given c = c .before .before .before .before .before .before .before .before .before .before .before .before .before .before .before .before .before .before .before .before .before
 
 mul-at : tie.Need-mul-at
-mul-at c = let s = given c in omega (arith, s .pre .1 .1 .1 .1 .0, s .good .1 .1 .1 .1 .1 .1 .1 .1 .1 .1 .1 .1 .1 .1 .1 .0)
+mul-at c = let s = given c in omega (arith, s .pre .1 .1 .1 .1 .1 .0, s .good .1 .1 .1 .1 .1 .1 .1 .1 .1 .1 .1 .1 .1 .1 .1 .1 .1 .1 .0)
 
 mul-new : tie.Need-mul-new
-mul-new c = let s = given c in omega (arith, s .pre .1 .1 .1 .1 .0, s .good .1 .1 .1 .1 .1 .1 .1 .1 .1 .1 .1 .1 .1 .1 .1 .0)
+mul-new c = let s = given c in omega (arith, s .pre .1 .1 .1 .1 .1 .0, s .good .1 .1 .1 .1 .1 .1 .1 .1 .1 .1 .1 .1 .1 .1 .1 .1 .1 .1 .0)
 
 shared-slice-read-new : tie.Need-shared-slice-read-new
 shared-slice-read-new c = search needs
 
 add-new : tie.Need-add-new
-add-new c = let s = given (c .before) in omega (arith, s .pre .1 .1 .1 .1 .0, s .good .1 .1 .1 .1 .1 .1 .1 .1 .1 .1 .1 .1 .1 .1 .1 .0)
+add-new c = let s = given (c .before) in omega (arith, s .pre .1 .1 .1 .1 .1 .0, s .good .1 .1 .1 .1 .1 .1 .1 .1 .1 .1 .1 .1 .1 .1 .1 .1 .1 .1 .0)
 
 mul-new-2 : tie.Need-mul-new-2
-mul-new-2 c = let s = given (c .before) in omega (arith, s .pre .1 .1 .1 .1 .0, s .good .1 .1 .1 .1 .1 .1 .1 .1 .1 .1 .1 .1 .1 .1 .1 .0)
+mul-new-2 c = let s = given (c .before) in omega (arith, s .pre .1 .1 .1 .1 .1 .0, s .good .1 .1 .1 .1 .1 .1 .1 .1 .1 .1 .1 .1 .1 .1 .1 .1 .1 .1 .0)
 
 shared-slice-read-new-2 : tie.Need-shared-slice-read-new-2
-shared-slice-read-new-2 c = search needs
+shared-slice-read-new-2 c = omega (arith, given (c .before .before) .pre .1 .1 .1 .1 .1 .0)
 
 add-new-2 : tie.Need-add-new-2
-add-new-2 c = let s = given (c .before .before) in omega (arith, s .pre .1 .1 .1 .1 .0, s .good .1 .1 .1 .1 .1 .1 .1 .1 .1 .1 .1 .1 .1 .1 .1 .0)
+add-new-2 c = let s = given (c .before .before) in omega (arith, s .pre .1 .1 .1 .1 .1 .0, s .good .1 .1 .1 .1 .1 .1 .1 .1 .1 .1 .1 .1 .1 .1 .1 .1 .1 .1 .0)
 
 mul-new-3 : tie.Need-mul-new-3
-mul-new-3 c = let s = given (c .before .before) in omega (arith, s .pre .1 .1 .1 .1 .0, s .good .1 .1 .1 .1 .1 .1 .1 .1 .1 .1 .1 .1 .1 .1 .1 .0)
+mul-new-3 c = let s = given (c .before .before) in omega (arith, s .pre .1 .1 .1 .1 .1 .0, s .good .1 .1 .1 .1 .1 .1 .1 .1 .1 .1 .1 .1 .1 .1 .1 .1 .1 .1 .0)
 
 shared-slice-read-new-3 : tie.Need-shared-slice-read-new-3
-shared-slice-read-new-3 c = search needs
+shared-slice-read-new-3 c = omega (arith, given (c .before .before .before) .pre .1 .1 .1 .1 .1 .0)
 
 new-requires : tie.Need-new-requires
 new-requires c κs = search needs
@@ -55,8 +55,8 @@ step-requires : tie.Need-step-requires
 step-requires c κs =
     let m = c .before .before .before .before .before in
     let s = began m .pre in
-    let t = s .1 .1 in
-    (s .0, (s .1 .0, (t .0, (t .1 .0, (rw (m .new .ensures) (move-within _ _ _ _), t .1 .1 .1 .1)))))
+    let t = s .1 .1 .1 in
+    (s .0, (s .1 .0, (s .1 .1 .0, (t .0, (t .1 .0, (rw (m .new .ensures) (move-within _ _ _ _), t .1 .1 .1 .1))))))
 
 status-of-requires : tie.Need-status-of-requires
 status-of-requires c κs = search needs
@@ -65,7 +65,7 @@ put-row-requires : tie.Need-put-row-requires
 put-row-requires c κs =
     let a = stepped (c .before) in
     let m = made a in
-    let s = began m .pre .1 .1 in
+    let s = began m .pre .1 .1 .1 in
     (s .1 .1 .1 .0, said-fits (s .0 .limits) (a .step .ensures .1) (m .new .ensures) (c .before .status-of .ensures) (move-within _ _ _ _))
 
 same-length : tie.Need-same-length
@@ -95,7 +95,7 @@ returns c =
       remembered-move (st .args .colouring .now) (m .new .ensures) (a .step .ensures .0),
       (
         answered-opened (a .step .ensures .1) (m .new .ensures),
-        said-put (st .pre .1 .1 .0 .limits) (a .step .ensures .1) (m .new .ensures) (s .status-of .ensures) _ _ (c .before .put-row .ensures),
+        said-put (st .pre .1 .1 .1 .0 .limits) (a .step .ensures .1) (m .new .ensures) (s .status-of .ensures) _ _ (c .before .put-row .ensures),
       ),
     )
 

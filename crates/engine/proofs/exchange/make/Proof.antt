@@ -11,6 +11,14 @@ use Rattle.engine.specs.Exchanging.{alike-remade, exchanging-kept, excha
 use Rattle.engine.proofs.exchange.make.Statement.{statement}
 use Rattle.engine.proofs.exchange.make.Tie as tie
 
+-- from where the two sectors' numbers were read to where all began
+abbrev began : tie.After-sides-in → tie.Start
+began c = c .before .before .before .before .before .before .before .before .before .before .before .before .before .before .before .before .before .before .before .before .before .before .before .before .before
+
+-- from where the colouring and the labels have followed to where all began
+abbrev turned : tie.After-turn-both → tie.Start
+turned c = c .before .before .before .before .before .before .before .before .before .before .before .before .before .before .before .before .before .before .before .before .before .before .before .before .before .before .before .before .before
+
 sub-from : tie.Need-sub-from
 sub-from c = search needs
 
@@ -30,25 +38,33 @@ slice-read-to : tie.Need-slice-read-to
 slice-read-to c = search needs
 
 returns : tie.Need-returns
-returns c = alike-remade (c .before .before .before .before .before .before .before .before .before .before .before .before .before .before .before .before .before .before .before .before .pre .0) (c .if1 .taken)
+returns c = alike-remade (c .before .before .before .before .before .before .before .before .before .before .before .before .before .before .before .before .before .before .before .before .before .before .pre .1 .0) (c .if1 .taken)
 
 sides-in-requires : tie.Need-sides-in-requires
-sides-in-requires c κs = let k = c .before .before .before .before .before .before .before .before .before .before .before .before .before .before .before .before .before .before .before .before .before .pre .0 in turning-placed (swapping-first (exchanging-swapping k (c .before .if1 .left))) (exchanging-kept k)
+sides-in-requires c κs =
+    let k = c .before .before .before .before .before .before .before .before .before .before .before .before .before .before .before .before .before .before .before .before .before .before .before .before .pre .1 .0 in
+    turning-placed (swapping-first (exchanging-swapping k (c .before .before .if1 .left))) (exchanging-kept k) (k .ready .prices)
 
 slice-relend-prefix-turn-both : tie.Need-slice-relend-prefix-turn-both
-slice-relend-prefix-turn-both c = omega (arith, c .before .before .before .before .before .before .before .before .before .before .before .before .before .before .before .before .before .before .before .before .before .before .before .pre .0 .ready .room)
+slice-relend-prefix-turn-both c = omega (arith, began (c .before) .pre .1 .0 .ready .room)
 
 slice-aggregate-turn-both : tie.Need-slice-aggregate-turn-both
-slice-aggregate-turn-both c = let s = c .before .before .before .before .before .before .before .before .before .before .before .before .before .before .before .before .before .before .before .before .before .before .before .before in sym (length-take-le _ (s .args .work .now) (omega (arith, s .pre .0 .ready .room)))
+slice-aggregate-turn-both c = let st = began (c .before .before) in sym (length-take-le _ (st .args .work .now) (omega (arith, st .pre .1 .0 .ready .room)))
 
 turn-both-requires : tie.Need-turn-both-requires
 turn-both-requires c κs =
-    let s = c .before .before .before .before .before .before .before .before .before .before .before .before .before .before .before .before .before .before .before .before .before .before .before .before .before .pre in
-    let t = exchanging-swapping (s .0) (c .before .before .before .before .before .if1 .left) in
-    (t, (turning-sides (swapping-first (t)) (exchanging-kept (s .0)) (c .before .before .before .sides-in .ensures), (kept-labels (exchanging-kept (s .0)), s .1)))
+    let b = c .before .before .before in
+    let s = began b .pre in
+    let k = s .1 .0 in
+    let t = exchanging-swapping k (c .before .before .before .before .before .before .if1 .left) in
+    let kept = exchanging-kept k in
+    (s .0 .limited, (t, (turning-sides (swapping-first t) kept (k .ready .prices) (b .sides-in .ensures), (kept-labels kept, s .1 .1))))
 
 settle-requires : tie.Need-settle-requires
-settle-requires c κs = let k = c .before .before .before .before .before .before .before .before .before .before .before .before .before .before .before .before .before .before .before .before .before .before .before .before .before .before .before .before .before .before .before .before .before .before .before .pre .0 in followed-settling (k .setting) (k .ready) (c .before .before .before .before .before .before .before .before .before .turn-both .ensures)
+settle-requires c κs =
+    let t = c .before .before .before .before .before .before .before .before .before in
+    let s = turned t .pre in
+    (s .0 .shared, followed-settling (s .1 .0 .setting) (s .1 .0 .ready) (t .turn-both .ensures))
 
 same-length : tie.Need-same-length
 same-length c = search needs
@@ -64,9 +80,10 @@ same-length-4 c = search needs
 
 returns-2 : tie.Need-returns-2
 returns-2 c =
-    let k = c .before .before .before .before .before .before .before .before .before .before .before .before .before .before .before .before .before .before .before .before .before .before .before .before .before .before .before .before .before .before .before .before .before .before .before .before .before .before .before .before .pre .0 in
+    let t = c .before .before .before .before .before .before .before .before .before .before .before .before .before .before in
+    let k = turned t .pre .1 .0 in
     let s = c .before .before .before .before .settle .ensures in
-    followed-remade (k .setting) (k .ready) (c .before .before .before .before .before .before .before .before .before .before .before .before .before .before .turn-both .ensures) (s .0) (s .1)
+    followed-remade (k .setting) (k .ready) (t .turn-both .ensures) (s .0) (s .1)
 
 pub make-spec : {M : Type 1} → statement M
 make-spec =

@@ -1,6 +1,7 @@
 -- Regions of one sector leave the total; otherwise the figures and the total follow the change of both recolourings.
 use borrow.Author.Needs.{needs}
 use mathlib.Core.Path.{refl}
+use Rattle.engine.specs.Sorted.{ready-paid}
 use Rattle.engine.specs.Changing.{ready-changing, changing-shifting, changing-totalling, total-changed}
 use Rattle.engine.specs.Exchanging.{alike-total, exchanging-kept, exchanging-swapping}
 use Rattle.engine.proofs.exchange.probe.Statement.{statement}
@@ -8,7 +9,7 @@ use Rattle.engine.proofs.exchange.probe.Tie as tie
 
 -- from where the change is known to where all began
 abbrev began : tie.After-change-both → tie.Start
-began c = c .before .before .before .before .before .before .before .before .before .before .before .before .before .before .before .before .before .before .before .before .before .before .before .before .before
+began c = c .before .before .before .before .before .before .before .before .before .before .before .before .before .before .before .before .before .before .before .before .before .before .before .before .before .before .before
 
 sub-own : tie.Need-sub-own
 sub-own c = search needs
@@ -29,27 +30,26 @@ slice-read-other : tie.Need-slice-read-other
 slice-read-other c = search needs
 
 returns : tie.Need-returns
-returns c =
-    let s = c .before .before .before .before .before .before .before .before .before .before .before .before .before .before .before .before .before .before .before .before .before .pre in
-    (s .0, (alike-total (s .1 .0) (c .if1 .taken), refl))
+returns c = let s = c .before .before .before .before .before .before .before .before .before .before .before .before .before .before .before .before .before .before .before .before .before .before .before .pre .1 in (s .0, (alike-total (s .1 .0) (c .if1 .taken), refl))
 
 change-both-requires : tie.Need-change-both-requires
 change-both-requires c κs =
-    let s = c .before .before .before .before .before .before .before .before .before .before .before .before .before .before .before .before .before .before .before .before .before .before .before .before .pre in
-    let k = s .1 .0 in
-    (s .0, (exchanging-swapping k (c .before .before .before .if1 .left), (exchanging-kept k, s .1 .1)))
+    let s = c .before .before .before .before .before .before .before .before .before .before .before .before .before .before .before .before .before .before .before .before .before .before .before .before .before .before .pre in
+    let k = s .1 .1 .0 in
+    (ready-paid (s .0) (k .ready), (s .1 .0, (exchanging-swapping k (c .before .before .before .if1 .left), (exchanging-kept k, s .1 .1 .1))))
 
 figures-after-requires : tie.Need-figures-after-requires
 figures-after-requires c κs =
     let n = c .before .before .before .before .before .before in
-    let k = began n .pre .1 .0 in
+    let k = began n .pre .1 .1 .0 in
     changing-shifting (ready-changing (k .setting) (k .ready) (n .change-both .ensures .1 .0))
 
-total-after-requires : tie.Need-total-after-requires
-total-after-requires c κs =
+total-requires : tie.Need-total-requires
+total-requires c κs =
     let n = c .before .before .before .before .before .before .before in
-    let k = began n .pre .1 .0 in
-    changing-totalling (ready-changing (k .setting) (k .ready) (n .change-both .ensures .1 .0)) (c .figures-after .ensures) _ refl
+    let s = began n .pre in
+    let k = s .1 .1 .0 in
+    changing-totalling (ready-changing (k .setting) (k .ready) (n .change-both .ensures .1 .0)) (c .figures-after .ensures) (s .0 .shared)
 
 same-length : tie.Need-same-length
 same-length c = search needs
@@ -63,9 +63,11 @@ same-length-3 c = search needs
 returns-2 : tie.Need-returns-2
 returns-2 c =
     let n = c .before .before .before .before .before .before .before .before in
-    let k = began n .pre .1 .0 in
+    let s = began n .pre in
+    let k = s .1 .1 .0 in
     let t = n .change-both .ensures in
-    (t .0, (total-changed (ready-changing (k .setting) (k .ready) (t .1 .0)) (c .before .figures-after .ensures) _ refl (c .total-after .ensures), t .1 .1))
+    let changing = ready-changing (k .setting) (k .ready) (t .1 .0) in
+    (t .0, (total-changed changing (c .before .figures-after .ensures) (s .0 .shared) (c .total .ensures), t .1 .1))
 
 pub probe-spec : {M : Type 1} → statement M
 probe-spec =
@@ -80,7 +82,7 @@ probe-spec =
     returns
     change-both-requires
     figures-after-requires
-    total-after-requires
+    total-requires
     same-length
     same-length-2
     same-length-3

@@ -8,6 +8,18 @@ use Rattle.engine.specs.Swapping.{swapping-first, swapping-second, swapp
 use Rattle.engine.proofs.exchange.turn_both.Statement.{statement}
 use Rattle.engine.proofs.exchange.turn_both.Tie as tie
 
+-- from where the second was given to where the first was
+abbrev turned : tie.After-turn2 → tie.After-turn
+turned c = c .before .before .before .before .before .before .before .before .before .before .before
+
+-- from there to where the labels were copied
+abbrev copied : tie.After-turn → tie.After-copy
+copied c = c .before .before .before .before .before
+
+-- and from there to where all began
+abbrev began : tie.After-copy → tie.Start
+began c = c .before .before .before .before .before .before .before .before .before .before .before .before .before .before .before .before .before .before .before .before .before .before
+
 sub-from : tie.Need-sub-from
 sub-from c = search needs
 
@@ -30,57 +42,65 @@ slice-aggregate-copy : tie.Need-slice-aggregate-copy
 slice-aggregate-copy c = search needs
 
 copy-requires : tie.Need-copy-requires
-copy-requires c κs = let s = c .before .before .before .before .before .before .before .before .before .before .before .before .before .before .before .before .before .before .before .before .pre in omega (arith, swapping-size (s .0) (s .1 .1 .0), s .0 .ground .limits .R)
+copy-requires c κs = let s = c .before .before .before .before .before .before .before .before .before .before .before .before .before .before .before .before .before .before .before .before .before .pre .1 in omega (arith, swapping-size (s .0) (s .1 .1 .0), s .0 .ground .limits .R)
 
 turn-requires : tie.Need-turn-requires
-turn-requires c κs = let s = c .before .before .before .before .before .before .before .before .before .before .before .before .before .before .before .before .before .before .before .before .before .before .before .before .before .pre in (swapping-first (s .0), s .1)
+turn-requires c κs = let s = began (c .before .before .before .before) .pre in (s .0, (swapping-first (s .1 .0), s .1 .1))
 
 turned-round-requires : tie.Need-turned-round-requires
 turned-round-requires c κs = search needs
 
 turn-requires-2 : tie.Need-turn-requires-2
 turn-requires-2 c κs =
-    let s = c .before .before .before .before .before .before .before .before .before .before .before .before .before .before .before .before .before .before .before .before .before .before .before .before .before .before .before .before .before .before .before .before .before .before .before .before .pre in
-    let t = c .before .before .before .before .before .before .before .before .before .before .turn in
-    let f = t .ensures .0 in (
-      swapping-second (s .0) (f .colouring) (t .kept .1 .1 .1 .1 .1 .1 .1 .1 .1 .1 .1 .1 .1 .1 .1 .1 .0),
-      (swapping-sides (s .0) (f .colouring) (f .changed) (c .before .before .before .turned-round .ensures), (between-labelled (s .0) (s .1 .1 .0) f, s .1 .1 .1)),
+    let t = c .before .before .before .before .before .before .before .before .before .before in
+    let s = began (copied t) .pre in
+    let k = s .1 .0 in
+    let f = t .turn .ensures .0 in (
+      s .0,
+      (swapping-second k (f .colouring) (t .turn .kept .1 .1 .1 .1 .1 .1 .1 .1 .1 .1 .1 .1 .1 .1 .1 .1 .1 .0), (swapping-sides k (f .colouring) (f .changed) (c .before .before .before .turned-round .ensures), (between-labelled k (s .1 .1 .1 .0) f, s .1 .1 .1 .1))),
     )
 
 array-share-prefix-old : tie.Need-array-share-prefix-old
-array-share-prefix-old c = omega (arith, c .before .before .before .before .before .before .before .before .before .before .before .before .before .before .before .before .before .before .before .before .before .before .copy .kept .1 .0, c .before .before .before .before .before .before .before .before .before .before .before .before .before .before .before .before .before .before .before .before .before .before .before .before .before .before .before .before .before .before .before .before .before .before .before .before .before .before .before .before .before .before .before .pre .0 .ground .limits .R)
+array-share-prefix-old c = let o = copied (turned (c .before .before .before .before .before .before)) in omega (arith, o .copy .kept .1 .0, began o .pre .1 .0 .ground .limits .R)
 
 slice-aggregate-differing : tie.Need-slice-aggregate-differing
-slice-aggregate-differing c = sym (length-take-le _ (c .before .before .before .before .before .before .before .before .before .before .before .before .before .before .before .before .before .before .before .before .before .before .before .copy .last .1 .0) (omega (arith, c .before .before .before .before .before .before .before .before .before .before .before .before .before .before .before .before .before .before .before .before .before .before .before .copy .kept .1 .0, c .before .before .before .before .before .before .before .before .before .before .before .before .before .before .before .before .before .before .before .before .before .before .before .before .before .before .before .before .before .before .before .before .before .before .before .before .before .before .before .before .before .before .before .before .pre .0 .ground .limits .R)))
+slice-aggregate-differing c =
+    let o = copied (turned (c .before .before .before .before .before .before .before)) in
+    sym (length-take-le _ (o .copy .last .1 .0) (omega (arith, o .copy .kept .1 .0, began o .pre .1 .0 .ground .limits .R)))
 
 differing-requires : tie.Need-differing-requires
 differing-requires c κs =
-    let s = c .before .before .before .before .before .before .before .before .before .before .before .before .before .before .before .before .before .before .before .before .before .before .before .before .before .before .before .before .before .before .before .before .before .before .before .before .before .before .before .before .before .before .before .before .before .pre in
-    length-take-le _ (c .before .before .before .before .before .before .before .before .before .before .before .before .before .before .before .before .before .before .before .before .before .before .before .before .copy .last .1 .0) (omega (arith, c .before .before .before .before .before .before .before .before .before .before .before .before .before .before .before .before .before .before .before .before .before .before .before .before .copy .kept .1 .0, c .before .before .before .before .before .before .before .before .before .before .before .before .before .before .before .before .before .before .before .before .before .before .before .before .before .before .before .before .before .before .before .before .before .before .before .before .before .before .before .before .before .before .before .before .before .pre .0 .ground .limits .R))
-    ∙ sym (c .before .before .before .before .before .before .before .before .turn2 .kept .1 .1 .1 .1 .1 .1 .1 .1 .1 .1 .1 .1 .1 .1 .1 .0 ∙ c .before .before .before .before .before .before .before .before .before .before .before .before .before .before .before .before .before .before .before .turn .kept .1 .1 .1 .1 .1 .1 .1 .1 .1 .1 .1 .1 .1 .1 .1 .0 ∙ swapping-size (s .0) (s .1 .1 .0))
+    let t = c .before .before .before .before .before .before .before .before in
+    let o = copied (turned t) in
+    let s = began o .pre .1 in
+    length-take-le _ (o .copy .last .1 .0) (omega (arith, o .copy .kept .1 .0, s .0 .ground .limits .R))
+    ∙ sym (t .turn2 .kept .1 .1 .1 .1 .1 .1 .1 .1 .1 .1 .1 .1 .1 .1 .1 .1 .0 ∙ turned t .turn .kept .1 .1 .1 .1 .1 .1 .1 .1 .1 .1 .1 .1 .1 .1 .1 .1 .0 ∙ swapping-size (s .0) (s .1 .1 .0))
 
 together-requires : tie.Need-together-requires
 together-requires c κs =
-    let k = c .before .before .before .before .before .before .before .before .before .before .before .before .before .before .before .before .before .before .before .before .before .before .before .before .before .before .before .before .before .before .before .before .before .before .before .before .before .before .before .before .before .before .before .before .before .before .pre .0 in
-    let once = c .before .before .before .before .before .before .before .before .before .before .before .before .before .before .before .before .before .before .before .before .turn .ensures in
-    let twice = c .before .before .before .before .before .before .before .before .before .turn2 .ensures in
+    let t = c .before .before .before .before .before .before .before .before .before in
+    let k = began (copied (turned t)) .pre .1 .0 in
+    let once = turned t .turn .ensures in
+    let twice = t .turn2 .ensures in
     swapping-addable k (once .0 .colouring) (followed-turns (once .0) (once .1)) (followed-turns (twice .0) (twice .1))
 
 same-length : tie.Need-same-length
-same-length c = c .before .before .before .before .before .before .before .before .before .before .turn2 .kept .1 .1 .1 .1 .1 .1 .1 .1 .1 .1 .1 .1 .1 .1 .0 ∙ c .before .before .before .before .before .before .before .before .before .before .before .before .before .before .before .before .before .before .before .before .before .turn .kept .1 .1 .1 .1 .1 .1 .1 .1 .1 .1 .1 .1 .1 .1 .0
+same-length c = let t = c .before .before .before .before .before .before .before .before .before .before in t .turn2 .kept .1 .1 .1 .1 .1 .1 .1 .1 .1 .1 .1 .1 .1 .1 .1 .0 ∙ turned t .turn .kept .1 .1 .1 .1 .1 .1 .1 .1 .1 .1 .1 .1 .1 .1 .1 .0
 
 same-length-2 : tie.Need-same-length-2
-same-length-2 c = c .before .before .before .before .before .before .before .before .before .before .turn2 .kept .1 .1 .1 .1 .1 .1 .1 .1 .1 .1 .1 .1 .1 .1 .1 .0 ∙ c .before .before .before .before .before .before .before .before .before .before .before .before .before .before .before .before .before .before .before .before .before .turn .kept .1 .1 .1 .1 .1 .1 .1 .1 .1 .1 .1 .1 .1 .1 .1 .0
+same-length-2 c = let t = c .before .before .before .before .before .before .before .before .before .before in t .turn2 .kept .1 .1 .1 .1 .1 .1 .1 .1 .1 .1 .1 .1 .1 .1 .1 .1 .0 ∙ turned t .turn .kept .1 .1 .1 .1 .1 .1 .1 .1 .1 .1 .1 .1 .1 .1 .1 .1 .0
 
 same-length-3 : tie.Need-same-length-3
-same-length-3 c = c .before .before .before .before .before .before .before .before .before .before .turn2 .kept .1 .1 .1 .1 .1 .1 .1 .1 .1 .1 .1 .1 .1 .1 .1 .1 .0 ∙ c .before .before .before .before .before .before .before .before .before .before .before .before .before .before .before .before .before .before .before .before .before .turn .kept .1 .1 .1 .1 .1 .1 .1 .1 .1 .1 .1 .1 .1 .1 .1 .1 .0
+same-length-3 c = let t = c .before .before .before .before .before .before .before .before .before .before in t .turn2 .kept .1 .1 .1 .1 .1 .1 .1 .1 .1 .1 .1 .1 .1 .1 .1 .1 .1 .0 ∙ turned t .turn .kept .1 .1 .1 .1 .1 .1 .1 .1 .1 .1 .1 .1 .1 .1 .1 .1 .1 .0
 
 returns : tie.Need-returns
 returns c =
-    let s = c .before .before .before .before .before .before .before .before .before .before .before .before .before .before .before .before .before .before .before .before .before .before .before .before .before .before .before .before .before .before .before .before .before .before .before .before .before .before .before .before .before .before .before .before .before .before .before .pre in
-    let once = c .before .before .before .before .before .before .before .before .before .before .before .before .before .before .before .before .before .before .before .before .before .turn .ensures in
-    let twice = c .before .before .before .before .before .before .before .before .before .before .turn2 .ensures in
-    swapping-followed (s .0) (s .1 .1 .0) (once .0) _ (twice .0) (once .1) (twice .1) (c .before .before .before .before .before .before .before .before .before .before .before .before .before .before .before .before .before .before .before .before .before .before .before .before .before .before .copy .ensures) (c .before .differing .ensures) (c .together .ensures)
+    let t = c .before .before .before .before .before .before .before .before .before .before in
+    let o = copied (turned t) in
+    let s = began o .pre .1 in
+    let once = turned t .turn .ensures in
+    let twice = t .turn2 .ensures in
+    swapping-followed (s .0) (s .1 .1 .0) (once .0) _ (twice .0) (once .1) (twice .1) (o .copy .ensures) (c .before .differing .ensures) (c .together .ensures)
 
 pub turn-both-spec : {M : Type 1} → statement M
 turn-both-spec =

@@ -1,4 +1,4 @@
--- The four stores are those of the definition, each below the room that is there.
+-- The stores are those of the definitions, each below the room that is there.
 use borrow.Author.Needs.{needs}
 use native.Mathlib.Omega.{arith}
 use lib.ListN.{length-set}
@@ -47,8 +47,29 @@ mul-work-4 c = search needs
 slice-write-work-4 : tie.Need-slice-write-work-4
 slice-write-work-4 c = simp length-set (omega arith)
 
+sub-prices : tie.Need-sub-prices
+sub-prices c = search needs
+
+mul-prices : tie.Need-mul-prices
+mul-prices c = search needs
+
+slice-write-prices : tie.Need-slice-write-prices
+slice-write-prices c = search needs
+
+sub-prices-2 : tie.Need-sub-prices-2
+sub-prices-2 c = search needs
+
+mul-prices-2 : tie.Need-mul-prices-2
+mul-prices-2 c = search needs
+
+slice-write-prices-2 : tie.Need-slice-write-prices-2
+slice-write-prices-2 c = simp length-set (omega arith)
+
 same-length : tie.Need-same-length
 same-length c = simp length-set
+
+same-length-2 : tie.Need-same-length-2
+same-length-2 c = simp length-set
 
 returns : tie.Need-returns
 returns c = search needs
@@ -71,5 +92,12 @@ put-sides-spec =
     add-work-2
     mul-work-4
     slice-write-work-4
+    sub-prices
+    mul-prices
+    slice-write-prices
+    sub-prices-2
+    mul-prices-2
+    slice-write-prices-2
     same-length
+    same-length-2
     returns)
