@@ -16,8 +16,8 @@ pub const VERDICT: usize = 2;
 /// memory that this needs, makes it once and uses it again.
 ///
 /// **Probe in lists.** Each call of [`run`](Board::run), [`probe_all`](Board::probe_all) or [`make`](Board::make) first goes
-/// through the whole plan, and its moves share that. On plans of 512 regions a probe took 75 to 155 nanoseconds in a list of 4,096,
-/// and 14 to 16 microseconds in a call of its own: 100 to 200 times as much. So there is no call for a single probe.
+/// through the whole plan, and its moves share that. On plans of 512 regions a probe took 39 to 58 nanoseconds in a list of 4,096,
+/// and 14 to 16 microseconds in a call of its own: 270 to 380 times as much. So there is no call for a single probe.
 ///
 /// A clone is another board on the same plan, for another thread of a search. [`restart`](Board::restart) takes a board to another
 /// colouring.
