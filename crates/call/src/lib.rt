@@ -270,13 +270,13 @@ fn run(
     let mut prices = [0u64; MOST_SECTORS as usize];
     let mut queue = [0u64; MOST_REGIONS as usize + 1];
     let starts = regions as usize + 1;
-    let across = sectors as usize;
+    let sector_count = sectors as usize;
     gather(edges, &mut start[..starts], &mut near, &mut areas);
     let whole = sum_of(workloads);
-    let front = CONSTRAINT_LENGTH * pick(constraints, CONNECTED, BALANCED, &mut shared);
-    let middle = CONSTRAINT_LENGTH * pick(constraints, BOUNDED, BOUNDED, &mut limited);
-    let picked = CONSTRAINT_LENGTH * pick(constraints, DWELL, DWELL, &mut timed);
-    if picked == 0 {
+    let shared_end = CONSTRAINT_LENGTH * pick(constraints, CONNECTED, BALANCED, &mut shared);
+    let limited_end = CONSTRAINT_LENGTH * pick(constraints, BOUNDED, BOUNDED, &mut limited);
+    let timed_end = CONSTRAINT_LENGTH * pick(constraints, DWELL, DWELL, &mut timed);
+    if timed_end == 0 {
         return judge_all(
             sectors,
             whole,
@@ -286,12 +286,12 @@ fn run(
             counts,
             visits,
             constraints,
-            &shared[..front],
-            &limited[..middle],
+            &shared[..shared_end],
+            &limited[..limited_end],
             &start[..starts],
             &near,
             &areas,
-            &timed[..picked],
+            &timed[..timed_end],
             &[],
             &[],
             &[],
@@ -300,7 +300,7 @@ fn run(
             rows,
             verdicts,
             work,
-            &mut prices[..across],
+            &mut prices[..sector_count],
             &mut queue,
         );
     }
@@ -313,18 +313,18 @@ fn run(
         counts,
         visits,
         constraints,
-        &shared[..front],
-        &limited[..middle],
+        &shared[..shared_end],
+        &limited[..limited_end],
         &start[..starts],
         &near,
         &areas,
-        &timed[..picked],
+        &timed[..timed_end],
         moves,
         colouring,
         rows,
         verdicts,
         work,
-        &mut prices[..across],
+        &mut prices[..sector_count],
         &mut queue,
     )
 }

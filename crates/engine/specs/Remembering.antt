@@ -13,7 +13,7 @@ use Rattle.terms.specs.declared.Move.{Move}
 use Rattle.terms.specs.declared.Move.the-variants.{Recolour, Exchange, Ask, Refused}
 use Rattle.meaning.specs.Plan.{Edge, Plan, mostMoves}
 use Rattle.meaning.specs.Paths.{limits-ends}
-use Rattle.meaning.specs.Moves.{recolour, swap, next}
+use Rattle.meaning.specs.Moves.{swap, next}
 use Rattle.meaning.specs.MoveLaws.{exchange-alike}
 use Rattle.search.specs.Confined.{Confined, confined-none, confined-recolour, confined-swap}
 use Rattle.search.specs.Remembered.{Remembered, remembered-later, remembered-raise}

@@ -36,7 +36,7 @@ figuresBy S W counts loads T limits dwell =
       dwell = dwell;
     }
 
--- what a constraint keeps of its own: for kind 4 the sum of the distances, for the other kinds nothing
+-- what a constraint's verdict asks for by the workloads: for kind 4 the sum of the distances, for the other kinds nothing
 unfoldable pub gaugeOf : Plan → List ℕ → Constraint → ℕ
 gaugeOf P col k = cond (eqb (k .kind) 4) (bounded P col k) 0
 

@@ -102,7 +102,7 @@ pub fn distances(loads: &[u64], relation: Relation, limit: u64) -> u64
     sum
 }
 
-// What a constraint keeps of its own: the distances of a bounded one, and nothing of another.
+// What a constraint's verdict asks for by the workloads: the distances of a bounded one, and nothing of another.
 pub fn gauge_of(loads: &[u64], kind: u64, relation: u64, limit: u64) -> u64
     requires { ⌜ Few mostSectors mostLoad (now loads) ⌝ }
     requires { ⌜ ConstraintLimits (unweighted kind relation limit) ⌝ }

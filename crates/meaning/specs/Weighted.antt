@@ -5,7 +5,7 @@ use native.Mathlib.Nat.{zero-mul, mul-zero, mul-add, add-mul}
 use native.Mathlib.Omega.{arith}
 use mathlib.Core.Path.{_≡_, refl, _∙_}
 use mathlib.Core.List.{List, [], _∷_}
-use mathlib.Core.Bool.{Bool, true, false, cond, false≢true, and-eq-true-iff}
+use mathlib.Core.Bool.{Bool, true, false, cond, and-eq-true-iff}
 use borrow.Author.Tests.{leb-true, le-leb, lt-leb, eqb-true, eq-eqb, ne-eqb}
 use lib.Dec.{eqb, leb}
 use lib.ListN.{length}
@@ -91,23 +91,6 @@ weight-of kind (k ∷ ks) a = go (eqb (k .kind) kind) (weight-of kind ks a)
         → (cond t (k .weight) 0 + weightOf kind ks) * a ≡ k .weight * cond t a 0 + weighted ks (λ k. cond (eqb (k .kind) kind) a 0)
     go true e = omega (arith, add-mul (k .weight) (weightOf kind ks) a)
     go false e = omega (arith, mul-zero (k .weight))
-
--- those of a kind weigh as much among the kinds low to high
-pub kinds-weight : (low high kind : ℕ) → low ≤ kind → kind ≤ high → (ks : List Constraint) → weightOf kind (ofKinds low high ks) ≡ weightOf kind ks
-unfolding ofKinds weightOf
-kinds-weight low high kind l h [] = refl
-kinds-weight low high kind l h (k ∷ ks) = go (within low (k .kind) high) (eqb (k .kind) kind) refl among (kinds-weight low high kind l h ks)
-  where
-    among : eqb (k .kind) kind ≡ true → within low (k .kind) high ≡ true
-    among e =
-        let same = eqb-true (k .kind) kind e in
-        and-eq-true-iff (leb low (k .kind)) (leb (k .kind) high) .1 (le-leb low (k .kind) (omega arith), le-leb (k .kind) high (omega arith))
-
-    go : (s t : Bool) → eqb (k .kind) kind ≡ t → (t ≡ true → s ≡ true) → weightOf kind (ofKinds low high ks) ≡ weightOf kind ks
-        → weightOf kind (cond s (k ∷ ofKinds low high ks) (ofKinds low high ks)) ≡ cond t (k .weight) 0 + weightOf kind ks
-    go true t e m r = rw e (omega arith)
-    go false false e m r = omega arith
-    go false true e m r = absurd (false≢true (m refl))
 
 -- ---- what is due to the kinds
 

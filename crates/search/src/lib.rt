@@ -340,7 +340,8 @@ pub fn pieces_at(
     left
 }
 
-// How many pieces the component of a region falls into without it: searched for once, and remembered as long as its sector's version stands.
+// How many pieces the component of a region falls into without it: searched for once, and remembered as long as its sector's version stands,
+// with one more than that version, so that zeros remember nothing.
 fn pieces_of(
     edges: &[u64],
     start: &[u64],

@@ -55,8 +55,8 @@ slice-aggregate-pick c = search needs
 pick-requires : tie.Need-pick-requires
 pick-requires c κs = picked-fit (began (c .before .before .before .before .before) .pre)
 
-mul-front : tie.Need-mul-front
-mul-front c = search needs
+mul-shared-end : tie.Need-mul-shared-end
+mul-shared-end c = search needs
 
 slice-aggregate-pick-2 : tie.Need-slice-aggregate-pick-2
 slice-aggregate-pick-2 c = search needs
@@ -64,8 +64,8 @@ slice-aggregate-pick-2 c = search needs
 pick-requires-2 : tie.Need-pick-requires-2
 pick-requires-2 c κs = picked-fit (began (c .before .before .before .before .before .before .before .before) .pre)
 
-mul-middle : tie.Need-mul-middle
-mul-middle c = search needs
+mul-limited-end : tie.Need-mul-limited-end
+mul-limited-end c = search needs
 
 slice-aggregate-pick-3 : tie.Need-slice-aggregate-pick-3
 slice-aggregate-pick-3 c = search needs
@@ -73,8 +73,8 @@ slice-aggregate-pick-3 c = search needs
 pick-requires-3 : tie.Need-pick-requires-3
 pick-requires-3 c κs = picked-fit (began (c .before .before .before .before .before .before .before .before .before .before .before) .pre)
 
-mul-picked : tie.Need-mul-picked
-mul-picked c = search needs
+mul-timed-end : tie.Need-mul-timed-end
+mul-timed-end c = search needs
 
 array-share-prefix-shared : tie.Need-array-share-prefix-shared
 array-share-prefix-shared c = search needs
@@ -229,13 +229,13 @@ run-spec =
     sum-of-requires
     slice-aggregate-pick
     pick-requires
-    mul-front
+    mul-shared-end
     slice-aggregate-pick-2
     pick-requires-2
-    mul-middle
+    mul-limited-end
     slice-aggregate-pick-3
     pick-requires-3
-    mul-picked
+    mul-timed-end
     array-share-prefix-shared
     slice-aggregate-judge-all
     array-share-prefix-limited

@@ -1,10 +1,7 @@
 -- The loop goes through the row up to place j, and its two sums with what comes after make the whole areas.
-use Prim.Native.Nat.{ℕ, _-_}
+use Prim.Native.Nat.{_-_}
 use native.Mathlib.Omega.{arith}
-use mathlib.Core.List.{List}
-use lib.Dec.{eqb}
 use lib.ListN.{length, getD}
-use Rattle.lists.specs.Sums.{at}
 use Rattle.meaning.specs.Plan.{edgesOf}
 use Rattle.meaning.specs.Faces.{areaTo}
 use Rattle.search.specs.Weighing.{Towards, weighable-row, weighing-start, weighing-in, weighing-turn, weighing-fits, weighing-end}

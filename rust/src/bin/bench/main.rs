@@ -1,6 +1,6 @@
 //! Nanoseconds a move of the proved library and of the whole call in plain Rust, on the same plans and lists, by turns in one run,
-//! without flights and then with them; all that both leave is compared. Between them the typed board beside the flat call, after
-//! them the reading, the writing and the conversion of sheets.
+//! without flights and then with them; all that both leave is compared. Then the typed board beside the flat call, and the reading,
+//! the writing and the conversion of sheets.
 //!
 //! `bench calls` prints the tables on calls alone, `bench typed` the board's.
 

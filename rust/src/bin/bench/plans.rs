@@ -107,7 +107,7 @@ pub fn fly(random: &mut Random, plan: &mut Numbers, flights: usize, visits: usiz
 }
 
 /// What a list is made of: how often each kind of move stands in it, of a hundred, and whether recolourings go to a neighbour's sector
-/// across a border, as a search proposes them, or half of them to a neighbour's and half to any.
+/// across a border of the first colouring, as a search proposes them, or half of them to a neighbour's and half to any.
 pub struct List {
     pub name: &'static str,
     pub kinds: &'static [(u64, u64)],
