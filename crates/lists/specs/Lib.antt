@@ -2,6 +2,7 @@ pub mod Sums
 pub mod Tests
 pub mod SumLaws
 pub mod Counts
+pub mod Onto
 pub mod ListLaws
 pub mod Places
 pub mod Parts

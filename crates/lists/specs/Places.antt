@@ -71,6 +71,12 @@ by-set P (y ∷ ys) zero (suc j) x p q = q
 by-set P (y ∷ ys) (suc i) zero x p q = q
 by-set P (y ∷ ys) (suc i) (suc j) x p q = by-set P ys i j x p q
 
+-- a number set anew in a list that is mapped
+pub map-set : (f : ℕ → ℕ) (l : List ℕ) (i x : ℕ) → map f (set l i x) ≡ set (map f l) i (f x)
+map-set f [] i x = refl
+map-set f (y ∷ l) zero x = refl
+map-set f (y ∷ l) (suc i) x = ap (λ k. f y ∷ k) (map-set f l i x)
+
 -- ---- sums over a list of which a number is set anew
 
 -- the new sum and the old term make the old sum and the new term

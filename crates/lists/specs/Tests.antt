@@ -54,6 +54,11 @@ eqb-alike {a} {b} {c} {d} {a′} {b′} {c′} {d′} e =
 pub eqb-sym : (a b : ℕ) → eqb a b ≡ eqb b a
 eqb-sym a b = test-same _ _ (λ h. eq-eqb b a (sym (eqb-true a b h))) (λ h. eq-eqb a b (sym (eqb-true b a h)))
 
+-- what f makes of the one of two that a test picks is the one of what it makes of both
+pub cond-ap : {A B : Type 0} (f : A → B) (t : Bool) (x y : A) → f (cond t x y) ≡ cond t (f x) (f y)
+cond-ap f true x y = refl
+cond-ap f false x y = refl
+
 -- where a test fails, and where it passes, are all cases
 pub cond-parts : (t : Bool) (n : ℕ) → cond (not t) n 0 + cond t n 0 ≡ n
 cond-parts true n = omega arith

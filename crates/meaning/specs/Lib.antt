@@ -19,6 +19,11 @@ pub mod MoveLaws
 pub mod Deltas
 pub mod Faces
 pub mod Alike
+pub mod Together
+pub mod Matched
+pub mod Names
+pub mod NameLaws
+pub mod Renamed
 pub mod Put
 pub mod PutCounts
 pub mod Areas

@@ -92,6 +92,19 @@ planOf R S workloads outside edges counts visits constraints =
       constraints = constraintsOf constraints;
     }
 
+-- the plan with another number of sectors
+abbrev pub withSectors : Plan → ℕ → Plan
+withSectors P S =
+    record {
+      R = P .R;
+      S = S;
+      workloads = P .workloads;
+      outside = P .outside;
+      edges = P .edges;
+      flights = P .flights;
+      constraints = P .constraints;
+    }
+
 -- the outside areas of a plan that comes without them
 abbrev pub noOutside : ℕ → List ℕ
 noOutside R = replicate R 0

@@ -4,3 +4,4 @@ pub mod Passed
 pub mod Valid
 pub mod FewerKinds
 pub mod Plain
+pub mod Renamed
