@@ -110,10 +110,12 @@ module _ {l : Layout} (p : Laid l) where
   length-own : length (sectionDues (sectionOf l)) ≡ blocksIn l
   length-own = length-dues (l .kind) (l .size) (blocksIn l) (sectionOf l .bytes)
 
-  used-own : total (rep (l .count) (l .widths)) ≡ usedAll (sectionDues (sectionOf l))
+  -- its bytes are those that its blocks are used for
+  pub used-own : total (rep (l .count) (l .widths)) ≡ usedAll (sectionDues (sectionOf l))
   used-own = total-rep (l .count) (l .widths) ∙ sym (used-dues (sectionOf l) laid-sized)
 
-  next-drop : (n : ℕ) (sheet : List ℕ) → drop (blockLength * length (sectionDues (sectionOf l))) (drop (blockLength * n) sheet) ≡ drop (blockLength * (n + blocksIn l)) sheet
+  -- what comes after its blocks
+  pub next-drop : (n : ℕ) (sheet : List ℕ) → drop (blockLength * length (sectionDues (sectionOf l))) (drop (blockLength * n) sheet) ≡ drop (blockLength * (n + blocksIn l)) sheet
   next-drop n sheet =
       let own = sectionDues (sectionOf l) in
       let e : blockLength * n + blockLength * length own ≡ blockLength * (n + blocksIn l) = omega (arith, length-own) in

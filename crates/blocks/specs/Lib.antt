@@ -15,3 +15,4 @@ pub mod Filling
 pub mod Whole
 pub mod SectionRead
 pub mod SectionWritten
+pub mod Mapped

@@ -32,7 +32,8 @@ later-later : (w n : ℕ) (f g : Refusal) → orLater w n (orLater (f .code) (f 
 later-later zero n f g = refl
 later-later (suc w) n f g = refl
 
-block-drop : (xs : List Due) (sheet : List ℕ) → drop (blockLength * length xs) (drop blockLength sheet) ≡ drop (blockLength * suc (length xs)) sheet
+-- what comes after a block and so many others
+pub block-drop : (xs : List Due) (sheet : List ℕ) → drop (blockLength * length xs) (drop blockLength sheet) ≡ drop (blockLength * suc (length xs)) sheet
 block-drop xs sheet =
     let e : blockLength + blockLength * length xs ≡ blockLength * suc (length xs) = omega arith in
     drop-drop (blockLength * length xs) blockLength sheet ∙ ap (λ (k : ℕ). drop k sheet) e

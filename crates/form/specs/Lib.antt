@@ -7,6 +7,7 @@ pub mod ContentsLaws
 pub mod Fitting
 pub mod Accepted
 pub mod RoundTrip
+pub mod Renamed
 pub mod Over
 pub mod Listed
 pub mod Turning
