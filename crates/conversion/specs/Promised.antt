@@ -81,6 +81,14 @@ writing-holds : {f : Form} {k : Contents} {lent : List ℕ} {w : writing.Outcome
 unfolding writing.outcome
 writing-holds p z = writing.is-outcome p ∙ rw z
 
+-- of contents that the form carries whole it leaves their sheet, and they are not refused
+pub sheet-left : {f : Form} {k : Contents} {lent : List ℕ} {w : writing.Outcome} → carried f k ≡ k → writing.Promise f k lent w → w .answer .code ≡ 0
+    → (converted w ≡ sheetOf f k) × (contentsRefusal f k .code ≡ 0)
+sheet-left {f} {k} {lent} c q e =
+    let y : writing.writeRefusal f k (length lent) .code ≡ 0 = sym (writing-code f k lent) ∙ ap (λ (a : Written). a .code) (sym (q .answer)) ∙ e in
+    let v = writing-valid f k (length lent) y in
+    (rw (writing-holds q y) (take-at (sheetOf f k) (drop (length (sheetOf f k)) lent) (writing.sheetBytes f k) (length-written f k c v)), v)
+
 -- ---- a sheet read and written again
 
 -- the contents that a reading leaves: the front parts of the lent lists, by the counts that it answers
@@ -178,10 +186,10 @@ pub written-and-read : {f : Form} {k : Contents} {lent : List ℕ} {w : writing.
     → i .sheet ≡ converted w → Room k i → reading.Promise i o
     → ContentsAgain k o
 unfolding reading.held reading.readRefusal reading.outcome
-written-and-read {f} {k} {lent} {w} {i} {o} c q e s r p =
-    let y : writing.writeRefusal f k (length lent) .code ≡ 0 = sym (writing-code f k lent) ∙ ap (λ (a : Written). a .code) (sym (q .answer)) ∙ e in
-    let v = writing-valid f k (length lent) y in
-    let s′ : i .sheet ≡ sheetOf f k = (rw (writing-holds q y) at s) ∙ take-at (sheetOf f k) (drop (length (sheetOf f k)) lent) (writing.sheetBytes f k) (length-written f k c v) in
+written-and-read {f} {k} {i = i} {o} c q e s r p =
+    let t = sheet-left c q e in
+    let v = t .1 in
+    let s′ : i .sheet ≡ sheetOf f k = s ∙ t .0 in
     let a : Accepted f (i .sheet) = rw s′ (accepted-written f k c v) in
     let g : formIn (i .sheet) ≡ f = opened-form f (i .sheet) (a .opened) in
     let h : headBy (i .sheet) ≡ headOf k = rw (g, s′) (head-written f k c v) in

@@ -94,10 +94,12 @@ module _ {from to : Form} {sheet lent : List ℕ} {o : Outcome} (p : Promise fro
   pub source-accepted : Accepted from sheet
   source-accepted = whole .accepts
 
-  kept : (carried to (contentsIn from sheet) ≡ contentsIn from sheet) × (contentsRefusal to (contentsIn from sheet) .code ≡ 0)
+  -- the other form carries what it holds, and refuses none of it
+  pub kept : (carried to (contentsIn from sheet) ≡ contentsIn from sheet) × (contentsRefusal to (contentsIn from sheet) .code ≡ 0)
   kept = taken from to sheet (whole .accepts) (whole .carries-all)
 
-  is-sheet : converted o ≡ sheetOf to (contentsIn from sheet)
+  -- what is left is the sheet of it
+  pub is-sheet : converted o ≡ sheetOf to (contentsIn from sheet)
   is-sheet =
       let k = contentsIn from sheet in
       rw (converting-holds from to sheet p not-refused) (take-at (sheetOf to k) (drop (length (sheetOf to k)) lent) (sheetBytes to k) (length-written to k (kept .0) (kept .1)))

@@ -2,6 +2,7 @@ pub mod MoveLists
 pub mod MoveNumbers
 pub mod Calls
 pub mod Work
+pub mod Renamed
 pub mod Sums
 pub mod Cutting
 pub mod Rows
@@ -25,3 +26,4 @@ pub mod Judgings
 pub mod Writings
 pub mod Conversions
 pub mod Converted
+pub mod RenamedSheets
