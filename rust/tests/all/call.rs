@@ -4,8 +4,8 @@ use crate::calls::{by_reference, compare, Answer, Call, Memory};
 use crate::cases::{all_cases, random_cases, shrink, Case, Code};
 use crate::library;
 use crate::plans::{
-    break_list, damaged, flights_along, judged_damages, largest_whole_plan, moves, plan_of, sheet_a_with_both,
-    sheet_a_with_flights, Damage, Numbers, Random,
+    damaged, flights_along, judged_damages, largest_whole_plan, moves, plan_of, sheet_a_with_both, sheet_a_with_flights, Damage,
+    Numbers, Random,
 };
 use crate::reference::*;
 
@@ -25,24 +25,10 @@ fn random_damaged_calls() {
     random_cases("damaged calls", 20_000, |random| {
         let mut call = Call::random(random);
         for _ in 0..random.between(1, 3) {
-            break_one(random, &mut call);
+            call.break_one(random);
         }
         call
     });
-}
-
-fn break_one(random: &mut Random, call: &mut Call) {
-    let Call { plan, moves, rows, verdicts, work } = call;
-    match random.between(0, 10) {
-        0 => break_list(random, moves, &[plan.regions, plan.sectors]),
-        1 | 2 => {
-            let room = &mut [rows, verdicts, work][random.place(3)];
-            **room = random.pick(&[0, room.saturating_sub(1), **room + 1, **room + 7]);
-        }
-        3 | 4 => plan.break_flights(random),
-        5 => plan.break_outside(random),
-        _ => plan.break_one(random),
-    }
 }
 
 /// Slices of no length lie nowhere.

@@ -2,7 +2,7 @@
 //! around what is lent; and what is the same of a sheet and its conversion. Sheets whose bytes are damaged are in `damage`.
 
 use crate::calls::{self, Call};
-use crate::cases::{all_cases, random_cases, shrink, Case, Code, Memory as _};
+use crate::cases::{all_cases, random_cases, same, shrink, Case, Code, Memory as _};
 use crate::library;
 use crate::plans::{
     damaged, largest_plan, largest_whole_plan, moves, plan, sheet_a, sheet_a_with_both, sheet_a_with_flights,
@@ -11,7 +11,9 @@ use crate::plans::{
 use crate::reference::*;
 use crate::sheets::converting::{by_archive, by_library, by_reference, compare, converted, Memory};
 use crate::sheets::writing::Answer;
-use crate::sheets::{files, numbers_in, reading, same_bytes, sheet_damages, sheets_at_block_ends, Change, Converting, Sheet};
+use crate::sheets::{
+    answers, files, numbers_in, reading, same_bytes, sheet_damages, sheets_at_block_ends, Change, Converting, Sheet,
+};
 
 #[test]
 fn random_conversions() {
@@ -181,25 +183,6 @@ impl Kept {
     }
 }
 
-/// In words, that a sheet and its conversion differ in this.
-fn same<T: PartialEq + std::fmt::Debug>(what: &str, one: &T, other: &T) -> Result<(), String> {
-    if one == other {
-        return Ok(());
-    }
-    Err(format!("{what} are {one:?}, and after the conversion {other:?}"))
-}
-
-/// All that a sheet answers by its bytes: the total, the number of constraints, and at each place in and around their list whether
-/// it holds and its violation.
-fn verdicts(bytes: &[u8]) -> Result<Vec<Option<u64>>, qirfadhun::Refusal> {
-    let sheet = library::Sheet::new(bytes)?;
-    let mut answers = vec![Some(sheet.total()), Some(sheet.constraints())];
-    for place in 0..=sheet.constraints() + 1 {
-        answers.extend([sheet.holds(place).map(u64::from), sheet.violation(place)]);
-    }
-    Ok(answers)
-}
-
 impl Case for Kept {
     fn compare(&self) -> Result<Code, String> {
         let bytes = self.sheet.bytes();
@@ -209,7 +192,7 @@ impl Case for Kept {
         };
         let back = converted(&there, self.sheet.form, by_library);
         same_bytes(&back.map_err(|code| format!("the way back is refused by {code:?}"))?, &bytes)?;
-        same("the verdicts", &verdicts(&bytes), &verdicts(&there))?;
+        same("the verdicts", &answers(&bytes), &answers(&there))?;
         let [plan, plan_there] = [&bytes, &there].map(|bytes| numbers_in(bytes, reading::by_library));
         same("the lists", &plan, &plan_there)?;
         let (Ok(plan), Ok(plan_there)) = (plan, plan_there) else { return Err("what is converted is not read".into()) };

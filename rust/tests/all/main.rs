@@ -6,6 +6,7 @@ mod cases;
 mod library;
 mod plans;
 mod reference;
+mod renaming;
 mod sheets;
 mod typed;
 
@@ -15,6 +16,8 @@ mod conversions;
 mod damage;
 mod flights;
 mod header;
+mod names;
+mod names_in_sheets;
 mod outside;
 mod readings;
 mod reasons;

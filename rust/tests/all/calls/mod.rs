@@ -3,7 +3,7 @@
 use crate::canary::Lent;
 use crate::cases::{self, compare_all, Case, Code, Memory as _};
 use crate::library::{raw, Constraint};
-use crate::plans::{lower, lower_number, moves, one_less, records, whole_plan, without, Numbers, Random};
+use crate::plans::{break_list, lower, lower_number, moves, one_less, records, whole_plan, without, Numbers, Random};
 use crate::reference::MOVES;
 use crate::{library, reference};
 
@@ -31,6 +31,21 @@ impl Call {
         let count = if random.once_in(400) { MOVES as usize } else { random.pick(&[0, 1, 4, 12, 40]) };
         let moves = moves(random, &plan, count);
         Call::new(plan, moves)
+    }
+
+    /// Changes one thing for a wild one: of the plan, the moves, or a lent room. By chance the call may still be good after it.
+    pub fn break_one(&mut self, random: &mut Random) {
+        let Call { plan, moves, rows, verdicts, work } = self;
+        match random.between(0, 10) {
+            0 => break_list(random, moves, &[plan.regions, plan.sectors]),
+            1 | 2 => {
+                let room = &mut [rows, verdicts, work][random.place(3)];
+                **room = random.pick(&[0, room.saturating_sub(1), **room + 1, **room + 7]);
+            }
+            3 | 4 => plan.break_flights(random),
+            5 => plan.break_outside(random),
+            _ => plan.break_one(random),
+        }
     }
 
     /// The call without a region; moves name those above it by their new numbers.

@@ -30,6 +30,14 @@ pub trait Memory: Clone {
     fn same_as(&self, due: &Self) -> Result<(), String>;
 }
 
+/// In words, that two which are to be the same differ in this.
+pub fn same<T: PartialEq + Debug>(what: &str, one: &T, other: &T) -> Result<(), String> {
+    if one == other {
+        return Ok(());
+    }
+    Err(format!("{what} are {one:?} of the one, and {other:?} of the other"))
+}
+
 /// What the reference answers, or in words where one of those under test first differs from it in its answer or in what it leaves.
 pub fn compare_all<M: Memory, A: PartialEq + Debug>(
     before: &M,

@@ -6,6 +6,7 @@ use crate::canary::Lent;
 use crate::cases::{self, compare_all, Case, Code};
 use crate::library::{self, raw};
 use crate::reference::Verdicts;
+use qirfadhun::Refusal;
 
 #[derive(Clone, Debug)]
 pub struct Asked(pub Sheet);
@@ -104,6 +105,17 @@ fn by_archive(memory: &mut Memory) -> Answers {
             verdicts: memory.places.iter().map(verdict).collect(),
         }
     }
+}
+
+/// All that a sheet answers by its bytes: the total, the number of constraints, and at each place in and around their list whether
+/// it holds and its violation.
+pub fn answers(bytes: &[u8]) -> Result<Vec<Option<u64>>, Refusal> {
+    let sheet = library::Sheet::new(bytes)?;
+    let mut answers = vec![Some(sheet.total()), Some(sheet.constraints())];
+    for place in 0..=sheet.constraints() + 1 {
+        answers.extend([sheet.holds(place).map(u64::from), sheet.violation(place)]);
+    }
+    Ok(answers)
 }
 
 impl Case for Asked {

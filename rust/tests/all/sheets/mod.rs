@@ -3,6 +3,7 @@
 mod asking;
 mod change;
 pub mod converting;
+pub mod printing;
 pub mod reading;
 mod refused;
 pub mod writing;
@@ -10,7 +11,7 @@ pub mod writing;
 use crate::cases::{all_cases, random_cases};
 use crate::plans::{flights_along, plan, plan_of, sheet_a, sheet_a_with_both, whole_plan, Numbers, Random};
 use crate::reference::*;
-pub use asking::Asked;
+pub use asking::{answers, Asked};
 pub use change::{lengths, Change};
 pub use converting::Converting;
 pub use reading::{numbers_in, Reading};

@@ -1,0 +1,218 @@
+//! Two sheets that differ in the names of sectors alone: written, read, asked, printed and converted alike, and refused alike where
+//! they are damaged alike.
+
+use crate::cases::{all_cases, random_cases, same, Case, Code, Memory as _};
+use crate::plans::{damaged, sheet_a, Numbers, Random};
+use crate::reference::{BLOCK, FORMS, PAYLOAD, PREFIX};
+use crate::renaming::{Renamed, Renaming};
+use crate::sheets::converting::{self, converted};
+use crate::sheets::printing::printed;
+use crate::sheets::{answers, files, numbers_in, reading, same_bytes, sheet_damages, writing, Change, Sheet, Writing};
+
+/// Sheet A with a third sector, which is empty, and with sectors 1, 2 and 3 called 3, 1 and 2: the text names no sector.
+#[test]
+fn sheet_a_in_five_lines() {
+    for colouring in [[1, 1, 1, 2, 2], [3, 3, 3, 1, 1]] {
+        let plan = Numbers { sectors: 3, colouring: colouring.to_vec(), ..sheet_a() };
+        for bytes in FORMS.map(|form| Sheet::of(form, plan.clone()).bytes()) {
+            assert_eq!(printed(&bytes), "1 1 1 0\n2 2 1 0\n3 3 0 160\n4 4 0 5\ntotal 335\n");
+        }
+    }
+}
+
+/// In words, where two good sheets differ in more than the names in the colouring's blocks, of kind 5, and the checks of these.
+fn names_alone(renaming: &Renaming, ours: &[u8], theirs: &[u8]) -> Result<(), String> {
+    let mut due = ours.to_vec();
+    for block in due.chunks_mut(BLOCK).filter(|block| block[4] == 5) {
+        let colouring = &mut block[PREFIX..PREFIX + PAYLOAD];
+        colouring.iter_mut().for_each(|byte| *byte = renaming.name(u64::from(*byte)) as u8);
+    }
+    Change::Checks.apply(&mut due);
+    same_bytes(theirs, &due)
+}
+
+impl Case for Renamed<Writing> {
+    fn compare(&self) -> Result<Code, String> {
+        let before = self.both().map(|writing| writing::Memory::of(&writing));
+        let [mut ours, mut theirs] = before.clone();
+        let [code, place, bytes] = writing::by_library(&mut ours);
+        same("the answers", &[code, place, bytes], &writing::by_library(&mut theirs))?;
+        if code == 0 {
+            let [ours, theirs] = [&ours, &theirs].map(|left| &left.sheet.content()[..bytes as usize]);
+            names_alone(&self.renaming, ours, theirs)?;
+        } else {
+            ours.same_as(&before[0])?;
+            theirs.same_as(&before[1])?;
+        }
+        Ok((code, None))
+    }
+
+    fn smaller(&self) -> Box<dyn Iterator<Item = Self> + '_> {
+        Box::new(self.ours.smaller().map(|ours| Renamed::new(ours, &self.renaming)))
+    }
+}
+
+#[test]
+fn random_writings() {
+    random_cases("renamed writings", 4_000, |random| {
+        let mut writing = Writing::random(random);
+        writing.room += random.pick(&[0, 0, 1, 512]);
+        Renamed::random(random, writing)
+    });
+}
+
+#[test]
+fn random_damaged_writings() {
+    random_cases("renamed damaged writings", 4_000, |random| {
+        let mut writing = Writing::random(random);
+        match random.between(0, 5) {
+            0 => writing.room = random.pick(&[0, writing.room - 1]),
+            1 => writing.plan.break_flights(random),
+            2 => writing.plan.break_outside(random),
+            _ => writing.plan.break_one(random),
+        }
+        Renamed::random(random, writing)
+    });
+}
+
+/// The code that both sheets are given by their bytes, or in words where they are not answered alike: by code and place, or by
+/// total, number of constraints, and at each place what holds and its violation.
+fn same_answers(ours: &[u8], theirs: &[u8]) -> Result<Code, String> {
+    let [ours, theirs] = [ours, theirs].map(answers);
+    same("the answers", &ours, &theirs)?;
+    Ok(ours.map_or_else(|refusal| reading::code(refusal.code, refusal.place), |_| (0, None)))
+}
+
+impl Renamed<Sheet> {
+    fn bytes(&self) -> [Vec<u8>; 2] {
+        self.both().map(|sheet| sheet.bytes())
+    }
+
+    /// Those of smaller plans only where no byte is changed: in them a change might be one of names.
+    fn smaller(&self) -> impl Iterator<Item = Self> + '_ {
+        let unchanged = self.ours.changes.is_empty();
+        let smaller = self.ours.smaller().filter(move |smaller| unchanged || smaller.plan == self.ours.plan);
+        smaller.map(|ours| Renamed::new(ours, &self.renaming))
+    }
+}
+
+impl Case for Renamed<Sheet> {
+    fn compare(&self) -> Result<Code, String> {
+        let renaming = &self.renaming;
+        let [ours, theirs] = self.bytes();
+        let code = same_answers(&ours, &theirs)?;
+        let [our_plan, their_plan] = [&ours, &theirs].map(|bytes| numbers_in(bytes, reading::by_library));
+        same("the plans", &our_plan.map(|plan| renaming.plan(&plan)), &their_plan)?;
+        for to in FORMS {
+            match [&ours, &theirs].map(|bytes| converted(bytes, to, converting::by_library)) {
+                [Ok(ours), Ok(theirs)] => {
+                    names_alone(renaming, &ours, &theirs)?;
+                    same_answers(&ours, &theirs)?;
+                }
+                [ours, theirs] => same("the conversions", &ours, &theirs)?,
+            }
+        }
+        Ok(code)
+    }
+
+    fn smaller(&self) -> Box<dyn Iterator<Item = Self> + '_> {
+        Box::new(self.smaller())
+    }
+}
+
+/// Sheets whose texts are compared.
+#[derive(Clone, Debug)]
+struct Texts(Renamed<Sheet>);
+
+impl Case for Texts {
+    fn compare(&self) -> Result<Code, String> {
+        let [ours, theirs] = self.0.bytes();
+        same("the texts", &printed(&ours), &printed(&theirs))?;
+        same_answers(&ours, &theirs)
+    }
+
+    fn smaller(&self) -> Box<dyn Iterator<Item = Self> + '_> {
+        Box::new(self.0.smaller().map(Texts))
+    }
+}
+
+fn some_sheets(random: &mut Random) -> Renamed<Sheet> {
+    let sheet = Sheet::random(random);
+    Renamed::random(random, sheet)
+}
+
+#[test]
+fn random_sheets() {
+    random_cases("renamed sheets", 3_000, some_sheets);
+    random_cases("renamed sheets printed", 40, |random| Texts(some_sheets(random)));
+}
+
+#[test]
+fn sheet_files() {
+    let mut random = Random::new(1);
+    let sheets: Vec<_> = files().into_iter().map(|(sheet, _)| Renamed::random(&mut random, sheet)).collect();
+    all_cases("renamed sheet files", sheets.iter().cloned());
+    all_cases("renamed sheet files printed", sheets.into_iter().map(Texts));
+}
+
+/// A change to a sheet's bytes that is the same under all names: a byte of the colouring becomes one that names no sector, or
+/// something is changed besides S and the colouring.
+fn nameless_change(random: &mut Random, sheet: &Sheet) -> Change {
+    let bytes = sheet.bytes();
+    if random.once_in(4) {
+        let first = bytes.chunks(BLOCK).position(|block| block[4] == 5).expect("a colouring");
+        let region = random.place(sheet.plan.colouring.len());
+        let place = (first + region / PAYLOAD) * BLOCK + PREFIX + region % PAYLOAD;
+        return Change::Put(place, random.pick(&[0, sheet.plan.sectors as u8 + 1, 255]));
+    }
+    let named = |place: usize| (PREFIX + 2..PREFIX + 4).contains(&place) || bytes.get(place / BLOCK * BLOCK + 4) == Some(&5);
+    loop {
+        let change = Change::random(random, sheet.blocks());
+        let mut changed = match change {
+            Change::Put(place, _) | Change::Flip(place, _) => place..place + 1,
+            Change::PutNumber(place, _) => place..place + 2,
+            Change::Noise(place, count, _) => place..place + count,
+            _ => return change,
+        };
+        if !changed.any(named) {
+            return change;
+        }
+    }
+}
+
+/// A sheet whose plan is changed, or its bytes; then all blocks often have right numbers and checks.
+fn some_damaged_sheets(random: &mut Random) -> Renamed<Sheet> {
+    let mut sheet = Sheet::random(random);
+    if random.once_in(4) {
+        sheet.plan.break_one(random);
+        // As wide as a sheet has them.
+        sheet.plan.sectors %= 1 << 16;
+        sheet.plan.colouring.iter_mut().for_each(|sector| *sector %= 1 << 8);
+    } else {
+        let mut changes: Vec<Change> = (0..random.between(1, 2)).map(|_| nameless_change(random, &sheet)).collect();
+        if random.once_in(4) {
+            changes.push(Change::Numbers);
+        }
+        if random.between(1, 4) < 4 {
+            changes.push(Change::Checks);
+        }
+        sheet.changes = changes;
+    }
+    Renamed::random(random, sheet)
+}
+
+#[test]
+fn random_damaged_sheets() {
+    random_cases("renamed damaged sheets", 5_000, some_damaged_sheets);
+    random_cases("renamed damaged sheets printed", 40, |random| Texts(some_damaged_sheets(random)));
+}
+
+/// Sheet A has two sectors, which exchange their names.
+#[test]
+fn every_refused_sheet() {
+    for form in FORMS {
+        for (code, place, sheet) in damaged(&Sheet::a(form), &sheet_damages(form)) {
+            assert_eq!(Renamed::new(sheet, &Renaming(vec![2, 1])).compare(), Ok(reading::code(code, place)));
+        }
+    }
+}
