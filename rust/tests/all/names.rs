@@ -7,7 +7,7 @@ use crate::cases::{all_cases, random_cases, same, Case, Code, Memory as _};
 use crate::plans::{
     judged_damages, largest_whole_plan, moves, sheet_a, sheet_a_with_both, sheet_a_with_flights, Numbers, Random,
 };
-use crate::reference::SECTORS;
+use crate::reference::{SECTORS, WORKLOAD};
 use crate::renaming::{Renamed, Renaming};
 use crate::typed::{board, row_numbers, typed_move, Shown};
 use qirfadhun::{Board, Cause, Move, Region, Sector, Verdict};
@@ -158,7 +158,8 @@ fn every_move_under_every_renaming() {
 #[test]
 fn the_largest_plan() {
     let mut random = Random::new(1);
-    let plan = largest_whole_plan(&mut random);
+    let mut plan = largest_whole_plan(&mut random);
+    plan.workloads.fill_with(|| random.between(0, WORKLOAD));
     let moves = moves(&mut random, &plan, 200);
     let reversal = Renaming((1..=SECTORS).rev().collect());
     all_cases("the largest plan, renamed", [Renamed::new(Call::new(plan, moves), &reversal)]);

@@ -3,7 +3,7 @@
 
 use crate::cases::{all_cases, random_cases, same, Case, Code, Memory as _};
 use crate::plans::{damaged, sheet_a, Numbers, Random};
-use crate::reference::{BLOCK, FORMS, PAYLOAD, PREFIX};
+use crate::reference::{BLOCK, FIRST, FORMS, PAYLOAD, PREFIX};
 use crate::renaming::{Renamed, Renaming};
 use crate::sheets::converting::{self, converted};
 use crate::sheets::printing::printed;
@@ -20,31 +20,30 @@ fn sheet_a_in_five_lines() {
     }
 }
 
-/// In words, where two good sheets differ in more than the names in the colouring's blocks, of kind 5, and the checks of these.
-fn names_alone(renaming: &Renaming, ours: &[u8], theirs: &[u8]) -> Result<(), String> {
-    let mut due = ours.to_vec();
-    for block in due.chunks_mut(BLOCK).filter(|block| block[4] == 5) {
-        let colouring = &mut block[PREFIX..PREFIX + PAYLOAD];
-        colouring.iter_mut().for_each(|byte| *byte = renaming.name(u64::from(*byte)) as u8);
+impl Renamed<Writing> {
+    /// The code that both are given, or in words where this writer doesn't treat them alike.
+    fn compare_by(&self, write: fn(&mut writing::Memory) -> writing::Answer) -> Result<Code, String> {
+        let [before, mut due] = self.both().map(|writing| writing::Memory::of(&writing));
+        let (mut ours, mut theirs) = (before.clone(), due.clone());
+        let [code, place, bytes] = write(&mut ours);
+        same("the answers", &[code, place, bytes], &write(&mut theirs))?;
+        if code == 0 {
+            let written = self.renaming.sheet(&ours.sheet.content()[..bytes as usize]);
+            due.sheet.slice()[..written.len()].copy_from_slice(&written);
+        } else {
+            ours.same_as(&before)?;
+        }
+        theirs.same_as(&due)?;
+        Ok((code, None))
     }
-    Change::Checks.apply(&mut due);
-    same_bytes(theirs, &due)
 }
 
 impl Case for Renamed<Writing> {
     fn compare(&self) -> Result<Code, String> {
-        let before = self.both().map(|writing| writing::Memory::of(&writing));
-        let [mut ours, mut theirs] = before.clone();
-        let [code, place, bytes] = writing::by_library(&mut ours);
-        same("the answers", &[code, place, bytes], &writing::by_library(&mut theirs))?;
-        if code == 0 {
-            let [ours, theirs] = [&ours, &theirs].map(|left| &left.sheet.content()[..bytes as usize]);
-            names_alone(&self.renaming, ours, theirs)?;
-        } else {
-            ours.same_as(&before[0])?;
-            theirs.same_as(&before[1])?;
+        if *self.ours.form == FIRST {
+            self.compare_by(writing::by_library_records)?;
         }
-        Ok((code, None))
+        self.compare_by(writing::by_library)
     }
 
     fn smaller(&self) -> Box<dyn Iterator<Item = Self> + '_> {
@@ -106,7 +105,7 @@ impl Case for Renamed<Sheet> {
         for to in FORMS {
             match [&ours, &theirs].map(|bytes| converted(bytes, to, converting::by_library)) {
                 [Ok(ours), Ok(theirs)] => {
-                    names_alone(renaming, &ours, &theirs)?;
+                    same_bytes(&theirs, &renaming.sheet(&ours))?;
                     same_answers(&ours, &theirs)?;
                 }
                 [ours, theirs] => same("the conversions", &ours, &theirs)?,

@@ -2,8 +2,8 @@
 
 use crate::calls::Call;
 use crate::plans::{Numbers, Random};
-use crate::reference::SECTORS;
-use crate::sheets::{Sheet, Writing};
+use crate::reference::{BLOCK, PAYLOAD, PREFIX, SECTORS};
+use crate::sheets::{Change, Sheet, Writing};
 use crate::typed::{sector, Shown};
 use qirfadhun::{Cause, Sector, Stretch};
 
@@ -44,6 +44,17 @@ impl Renaming {
 
     pub fn plan(&self, plan: &Numbers) -> Numbers {
         Numbers { colouring: self.colouring(&plan.colouring), ..plan.clone() }
+    }
+
+    /// A good sheet with other names in the colouring's blocks, which are of kind 5.
+    pub fn sheet(&self, bytes: &[u8]) -> Vec<u8> {
+        let mut renamed = bytes.to_vec();
+        for block in renamed.chunks_mut(BLOCK).filter(|block| block[4] == 5) {
+            let colouring = &mut block[PREFIX..PREFIX + PAYLOAD];
+            colouring.iter_mut().for_each(|byte| *byte = self.name(u64::from(*byte)) as u8);
+        }
+        Change::Checks.apply(&mut renamed);
+        renamed
     }
 
     /// In moves, only the third number of kinds 1 and 2 is a sector.
