@@ -75,6 +75,9 @@ names! {
     Region(u16) to MOST_REGIONS;
 
     /// A sector, by its number from 1 to 64.
+    ///
+    /// No total, verdict, label or row's number depends on how sectors are numbered: two offices that number them differently
+    /// get the same, and translate only what has a sector in it (`docs/PROMISES.md`, its last section).
     Sector(u16) to MOST_SECTORS;
 
     /// The place of a constraint in its plan's list, from 1 to 16.

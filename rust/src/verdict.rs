@@ -88,7 +88,7 @@ impl<'b> Verdict<'b> {
     }
 
     /// Why it is broken: which sectors, stretches or sums are off, and by how much each. The parts add up to the violation. Where
-    /// it holds, there are none.
+    /// it holds, there are none. Those on sectors come in the order of the sectors' numbers, those on stretches as they are flown.
     ///
     /// # Errors
     ///

@@ -21,7 +21,7 @@ use Rattle.refusals.specs.Renamed.{plan-renamed, room-renamed}
 use Rattle.call.specs.declared.Answer.{Answer}
 use Rattle.call.specs.Promise.{Input, Outcome, Promise, given, planIn, movesIn, lastIn, ran, refusedBy, outcome}
 use Rattle.demands.specs.MoveLists.{moves-cons}
-use Rattle.demands.specs.Calls.{SamePlan, same-plan, rowsLeft, verdictsLeft, colouring-left, rows-left, verdicts-left}
+use Rattle.demands.specs.Calls.{SamePlan, same-plan, rowsLeft, verdictsLeft, rows-left, verdicts-left}
 use Rattle.demands.specs.Work.{numbersIn, work-labels, work-counts, work-loads, work-border}
 
 -- ---- definitions
@@ -36,7 +36,7 @@ pub record Renamed (p : ℕ → ℕ) (i j : Input) : Type 0 where
   pub work : length (j .work) ≡ length (i .work)
 
 -- what the two leave is the same: rows, verdicts, labels and T; sector c's components and workload stand at p c
-pub record Unmoved (p : ℕ → ℕ) (i : Input) (o : Outcome) (j : Input) (q : Outcome) : Type 0 where
+pub record LeftAlike (p : ℕ → ℕ) (i : Input) (o : Outcome) (j : Input) (q : Outcome) : Type 0 where
   pub rows : rowsLeft j q ≡ rowsLeft i o
   pub verdicts : verdictsLeft j q ≡ verdictsLeft i o
   pub label : (u : ℕ) → In (i .R) u → numbersIn j q .label u ≡ numbersIn i o .label u
@@ -64,7 +64,7 @@ colouring-of i = cond-ap (λ (o : Outcome). o .colouring) (eqb (callRefusal (giv
 -- ---- the moves
 
 -- the numbers of moves in the new names ask for the moves in the new names
-pub moves-renamed : (P : Plan) {p : ℕ → ℕ} → Renaming (P .S) p → (xs : List ℕ) → movesOf P (renamedMoves (P .S) p xs) ≡ map (renamedMove (P .S) p) (movesOf P xs)
+moves-renamed : (P : Plan) {p : ℕ → ℕ} → Renaming (P .S) p → (xs : List ℕ) → movesOf P (renamedMoves (P .S) p xs) ≡ map (renamedMove (P .S) p) (movesOf P xs)
 unfolding renamedMoves movesOf
 moves-renamed P r [] = refl
 moves-renamed P r (kind ∷ []) = refl
@@ -170,7 +170,7 @@ module _ {p : ℕ → ℕ} {i j : Input} (r : Renaming (i .S) p) (c : Renamed p 
           ∙ rw (← same-plan (c .plan), colouring-renamed, load-renamed (planIn i) r (o .colouring) d h) (sym (work-loads m z d h))
 
       -- names carry no weight: what is left is the same, and what a sector has moves with its name
-      pub names-weightless : Unmoved p i o j q
+      pub names-weightless : LeftAlike p i o j q
       names-weightless =
           record {
             rows = rows-in;

@@ -4,16 +4,18 @@ use Prim.Native.Nat.{ℕ}
 use mathlib.Core.Path.{_≡_, refl, sym, ap, _∙_}
 use mathlib.Core.Bool.{cond}
 use mathlib.Core.List.{List}
+use borrow.Author.Tests.{ne-eqb}
 use lib.Dec.{eqb}
 use lib.ListN.{length}
 use Rattle.lists.specs.Tests.{cond-ap}
 use Rattle.meaning.specs.Names.{Renaming}
 use Rattle.meaning.specs.Renamed.{total-renamed, verdicts-renamed}
+use Rattle.refusals.specs.Table.{refusal}
 use Rattle.form.specs.declared.Form.{Form}
 use Rattle.form.specs.declared.Form.the-variants.{First, Second}
 use Rattle.form.specs.Form.{formIn, Contents, carried, sheetOf, contentsIn, headBy, contentsBy}
-use Rattle.form.specs.Refusals.{contentsRefusal, sheetRefusal, refusalBy}
-use Rattle.form.specs.Renamed.{renamedContents, RenamedSheet, table-renamed, carried-renamed, form-renamed, head-renamed, contents-renamed, open-renamed, held-renamed, written-renamed}
+use Rattle.form.specs.Refusals.{contentsRefusal, openTable, sheetRefusal, refusalBy}
+use Rattle.form.specs.Renamed.{renamedContents, RenamedSheet, table-renamed, carried-renamed, whole-renamed, SameFirst, form-first, refused-first, same-first, head-renamed, contents-renamed, open-renamed, held-renamed, written-renamed}
 use Rattle.form.specs.Accepted.{opened-form}
 use Rattle.form.specs.RoundTrip.{written-read, accepted-written}
 use Rattle.judging.specs.Judgement.{planHeld, judged, judgement}
@@ -48,18 +50,32 @@ pub record AsLong (i j : reading.Input) : Type 0 where
 
 -- ---- the bytes alone
 
+-- of sheets that come to the same the same is told
+told : {a b : List ℕ} → judgement b ≡ judgement a → SameTold a b
+unfolding verdictAt textOf
+told e =
+    record {
+      code-told = rw (code, e);
+      place-told = rw (place, e);
+      total-told = rw (totalOf, e);
+      constraints-told = rw (constraintCount, e);
+      holds-told = λ k. rw e;
+      violation-told = λ k. rw e;
+      text-told = rw e;
+    }
+
 module _ {p : ℕ → ℕ} {a b : List ℕ} (s : RenamedSheet (formIn a) p a b) (r : Renaming (contentsBy a .S) p) where
   -- the two are refused alike, with the same code and place, or neither is
-  pub refusal-renamed : refusalBy b ≡ refusalBy a
+  refusal-renamed : refusalBy b ≡ refusalBy a
   unfolding sheetRefusal
-  refusal-renamed = rw (form-renamed s, open-renamed s, held-renamed s r)
+  refusal-renamed = rw (form-first (same-first s), open-renamed s, held-renamed s r)
 
   -- they hold the same but for names
   contents-by : contentsBy b ≡ renamedContents p (contentsBy a)
-  contents-by = rw (form-renamed s) (contents-renamed s)
+  contents-by = rw (form-first (same-first s)) (contents-renamed s)
 
   -- they come to the same: refusal, constraints, verdicts and total
-  pub judgement-renamed : judgement b ≡ judgement a
+  judgement-renamed : judgement b ≡ judgement a
   unfolding judgement judged
   judgement-renamed =
       let k = contentsBy a in
@@ -67,17 +83,17 @@ module _ {p : ℕ → ℕ} {a b : List ℕ} (s : RenamedSheet (formIn a) p a b) 
 
   -- so every call on a sheet's bytes answers the same of both, and their text is the same
   pub same-told : SameTold a b
-  unfolding verdictAt textOf
-  same-told =
-      record {
-        code-told = rw (code, judgement-renamed);
-        place-told = rw (place, judgement-renamed);
-        total-told = rw (totalOf, judgement-renamed);
-        constraints-told = rw (constraintCount, judgement-renamed);
-        holds-told = λ k. rw judgement-renamed;
-        violation-told = λ k. rw judgement-renamed;
-        text-told = rw judgement-renamed;
-      }
+  same-told = told judgement-renamed
+
+module _ {a b : List ℕ} (s : SameFirst a b) (n : refusal (openTable (formIn a) a) .code ≡ 0 → ⊥) where
+  -- two sheets with the same first block that are refused for their length, head or number of blocks come to the same
+  judgement-first : judgement b ≡ judgement a
+  unfolding judgement
+  judgement-first = let r = refused-first s (formIn a) n in rw (form-first s, r .0, ne-eqb (refusalBy a .code) 0 (r .1))
+
+  -- so the same is told of both, whatever stands in their other blocks
+  pub opening-told : SameTold a b
+  opening-told = told judgement-first
 
 -- ---- reading
 
@@ -92,7 +108,7 @@ module _ {p : ℕ → ℕ} {i j : reading.Input} (s : RenamedSheet (formIn (i .s
   unfolding reading.readRefusal reading.roomRight
   read-refusal =
       rw (
-        form-renamed s,
+        form-first (same-first s),
         open-renamed s,
         held-renamed s r,
         head-renamed s,
@@ -108,7 +124,7 @@ module _ {p : ℕ → ℕ} {i j : reading.Input} (s : RenamedSheet (formIn (i .s
   module _ {o q : reading.Outcome} (m : reading.Promise i o) (n : reading.Promise j q) where
     -- they answer alike, refused or not
     pub reading-renamed : q .answer ≡ o .answer
-    reading-renamed = n .answer ∙ read-answer j ∙ rw (read-refusal, form-renamed s, head-renamed s) (sym (read-answer i)) ∙ sym (m .answer)
+    reading-renamed = n .answer ∙ read-answer j ∙ rw (read-refusal, form-first (same-first s), head-renamed s) (sym (read-answer i)) ∙ sym (m .answer)
 
     -- and where they are not refused, what the second leaves is what the first leaves, in the new names
     pub contents-left-renamed : o .answer .code ≡ 0 → contentsLeft q ≡ renamedContents p (contentsLeft o)
@@ -135,11 +151,13 @@ module _ {f : Form} {k : Contents} {p : ℕ → ℕ} (r : Renaming (k .S) p) {le
   writing-renamed = n .answer ∙ write-answer f (renamedContents p k) lent′ ∙ rw write-refusal (sym (write-answer f k lent)) ∙ sym (m .answer)
 
   module _ (c : carried f k ≡ k) (z : o .answer .code ≡ 0) where
+    -- the first has written the sheet of the contents, which are not refused
     first : (converted o ≡ sheetOf f k) × (contentsRefusal f k .code ≡ 0)
     first = sheet-left c m z
 
+    -- the second that of the contents in the new names
     second : (converted q ≡ sheetOf f (renamedContents p k)) × (contentsRefusal f (renamedContents p k) .code ≡ 0)
-    second = sheet-left (carried-renamed f k p ∙ ap (renamedContents p) c) n (ap (λ a. a .code) writing-renamed ∙ z)
+    second = sheet-left (whole-renamed f k p c) n (ap (λ a. a .code) writing-renamed ∙ z)
 
     -- the sheets that are written differ in the names of sectors alone
     pub sheets-renamed : RenamedSheet f p (converted o) (converted q)

@@ -38,9 +38,11 @@ numbersIn i o =
     }
 
 module _ {i : Input} {o : Outcome} (p : Promise i o) (z : o .answer .code ≡ 0) where
+  -- its plan
   abbrev P : Plan
   P = planIn i
 
+  -- and the colouring that it leaves
   abbrev col : List ℕ
   col = o .colouring
 

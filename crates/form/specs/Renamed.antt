@@ -10,7 +10,9 @@ use Rattle.lists.specs.Sums.{Every}
 use Rattle.packing.specs.Numbers.{unpack, total}
 use Rattle.meaning.specs.Names.{Renaming, name, renamed}
 use Rattle.meaning.specs.NameLaws.{name-zero}
+use Rattle.refusals.specs.declared.Refusal.{Refusal}
 use Rattle.refusals.specs.Table.{refusal, planRefusal}
+use Rattle.refusals.specs.Passed.{front-given}
 use Rattle.refusals.specs.Renamed.{plan-renamed}
 use Rattle.blocks.specs.declared.Due.{Due}
 use Rattle.blocks.specs.Block.{blockLength, lettersLength, payloadOf}
@@ -23,7 +25,7 @@ use Rattle.form.specs.Form.{letters, kindCount, formIn, Contents, headOf
 use Rattle.form.specs.FormLaws.{four-letters, laid-layouts, head-first}
 use Rattle.form.specs.ContentsLaws.{valid-contents}
 use Rattle.form.specs.Fitting.{fits-numbers}
-use Rattle.form.specs.Refusals.{contentsTable, contentsRefusal, openTable, heldTable, laterFault}
+use Rattle.form.specs.Refusals.{contentsTable, contentsRefusal, openTable, heldTable, laterFault, sheetRefusal}
 use Rattle.form.specs.RoundTrip.{length-written, head-written}
 
 -- contents in the new names
@@ -50,6 +52,11 @@ pub record RenamedSheet (f : Form) (p : ℕ → ℕ) (a b : List ℕ) : Type 0 w
   pub size : length b ≡ length a
   pub blocks : RenamedBlocks p (headIn f a) (dues f (headIn f a)) a b
 
+-- two sheets have as many bytes and the same first block
+pub record SameFirst (a b : List ℕ) : Type 0 where
+  pub size : length b ≡ length a
+  pub block : take blockLength b ≡ take blockLength a
+
 -- ---- contents
 
 -- the call's rows on them are the same in the new names
@@ -66,12 +73,16 @@ pub carried-renamed : (f : Form) (k : Contents) (p : ℕ → ℕ) → carried f 
 carried-renamed First k p = refl
 carried-renamed Second k p = refl
 
+-- a form that carries them whole does so in the new names
+pub whole-renamed : (f : Form) (k : Contents) (p : ℕ → ℕ) → carried f k ≡ k → carried f (renamedContents p k) ≡ renamedContents p k
+whole-renamed f k p whole = carried-renamed f k p ∙ ap (renamedContents p) whole
+
 -- of the colouring each number has one byte
 single-layouts : (f : Form) (h : Head) → Every (Single (colouringLayout h .kind)) (layouts f h)
 unfolding layouts
 single-layouts f h = (
   λ e. absurd (omega arith),
-  (λ e. absurd (omega arith), (λ e. absurd (omega arith), (λ e. absurd (omega arith), (λ e. absurd (omega arith), (λ e. refl, (λ e. refl, (λ e. absurd (omega arith), tt))))))),
+  (λ e. absurd (omega arith), (λ e. absurd (omega arith), (λ e. absurd (omega arith), (λ e. absurd (omega arith), (λ e. refl, (λ e. absurd (omega arith), (λ e. absurd (omega arith), tt))))))),
 )
 
 -- ---- two sheets that are read
@@ -82,26 +93,49 @@ contents-mapped : (p : ℕ → ℕ) (f : Form) (h : Head) (sheet : List ℕ)
 unfolding contentsOf layouts onKind
 contents-mapped p f h sheet = simp map-id
 
-module _ {f : Form} {p : ℕ → ℕ} {a b : List ℕ} (s : RenamedSheet f p a b) where
-  abbrev h : Head
-  h = headIn f a
-
-  -- the block of the head, and the others
-  cut : (take blockLength b ≡ take blockLength a) × RenamedBlocks p h (drop 1 (dues f h)) (drop blockLength a) (drop blockLength b)
-  cut = let m = rw (head-first f h) at (s .blocks) in (m .0 .other (λ e. omega arith), m .1)
-
+module _ {a b : List ℕ} (s : SameFirst a b) where
   -- they have the same letters
-  pub form-renamed : formIn b ≡ formIn a
+  pub form-first : formIn b ≡ formIn a
   unfolding formIn
-  form-renamed =
+  form-first =
       let e : take lettersLength b ≡ take lettersLength a =
-      sym (take-take lettersLength blockLength b (omega arith)) ∙ ap (take lettersLength) (cut .0) ∙ take-take lettersLength blockLength a (omega arith) in
+      sym (take-take lettersLength blockLength b (omega arith)) ∙ ap (take lettersLength) (s .block) ∙ take-take lettersLength blockLength a (omega arith) in
       rw e
 
   -- and the same head
-  pub head-renamed : headIn f b ≡ headIn f a
+  head-of-first : (f : Form) → headIn f b ≡ headIn f a
   unfolding headIn
-  head-renamed = ap (λ (block : List ℕ). headFrom (unpack (headWidths f) (payloadOf (total (headWidths f)) block))) (cut .0)
+  head-of-first f = ap (λ (block : List ℕ). headFrom (unpack (headWidths f) (payloadOf (total (headWidths f)) block))) (s .block)
+
+  -- the rows on the length, on the head and on the number of blocks are the same
+  open-first : (f : Form) → openTable f b ≡ openTable f a
+  unfolding openTable
+  open-first f = rw (form-first, s .size, s .block, head-of-first f)
+
+  -- so where these refuse the first, the two are refused alike, whatever stands in their other blocks
+  pub refused-first : (f : Form) → (refusal (openTable f a) .code ≡ 0 → ⊥) → (sheetRefusal f b ≡ sheetRefusal f a) × (sheetRefusal f a .code ≡ 0 → ⊥)
+  unfolding sheetRefusal
+  refused-first f n =
+      let o = open-first f in
+      let x = front-given (openTable f a) (heldTable f a) n in
+      (sym (front-given (openTable f b) (heldTable f b) (rw o n)) ∙ ap refusal o ∙ x, λ z. n (ap (λ (r : Refusal). r .code) x ∙ z))
+
+module _ {f : Form} {p : ℕ → ℕ} {a b : List ℕ} (s : RenamedSheet f p a b) where
+  -- the head of the first
+  abbrev h : Head
+  h = headIn f a
+
+  -- the block of the head is the same, and of the others those of the colouring are in the new names
+  cut : (take blockLength b ≡ take blockLength a) × RenamedBlocks p h (drop 1 (dues f h)) (drop blockLength a) (drop blockLength b)
+  cut = let m = rw (head-first f h) at (s .blocks) in (m .0 .other (λ e. omega arith), m .1)
+
+  -- so they have the same first block
+  pub same-first : SameFirst a b
+  same-first = record { size = s .size; block = cut .0 }
+
+  -- and the same head
+  pub head-renamed : headIn f b ≡ headIn f a
+  head-renamed = head-of-first same-first f
 
   -- they hold the same contents but for names
   pub contents-renamed : contentsIn f b ≡ renamedContents p (contentsIn f a)
@@ -112,8 +146,7 @@ module _ {f : Form} {p : ℕ → ℕ} {a b : List ℕ} (s : RenamedSheet f p a b
 
   -- the rows on the length, on the head and on the number of blocks are the same
   pub open-renamed : openTable f b ≡ openTable f a
-  unfolding openTable
-  open-renamed = rw (form-renamed, s .size, cut .0, head-renamed)
+  open-renamed = open-first same-first f
 
   -- the same of the later blocks is the first that is refused
   later-renamed : laterFault f h b ≡ laterFault f h a
@@ -127,11 +160,7 @@ module _ {f : Form} {p : ℕ → ℕ} {a b : List ℕ} (s : RenamedSheet f p a b
 -- ---- contents that are written in both names
 
 module _ (f : Form) (k : Contents) {p : ℕ → ℕ} (names : Renaming (k .S) p) (whole : carried f k ≡ k) (z : contentsRefusal f k .code ≡ 0) where
-  -- the form carries them whole in the new names too
-  whole-renamed : carried f (renamedContents p k) ≡ renamedContents p k
-  whole-renamed = carried-renamed f k p ∙ ap (renamedContents p) whole
-
-  -- and they are not refused
+  -- they are not refused in the new names
   none-renamed : contentsRefusal f (renamedContents p k) .code ≡ 0
   none-renamed = rw (refused-renamed f k names) z
 
@@ -146,13 +175,13 @@ module _ (f : Form) (k : Contents) {p : ℕ → ℕ} (names : Renaming (k .S) p)
   blocks-renamed =
       let h = headOf k in
       let fits = fits-numbers f k whole (valid-contents f k z) in
-      let fits-new = fits-numbers f (renamedContents p k) whole-renamed (valid-contents f (renamedContents p k) none-renamed) in
+      let fits-new = fits-numbers f (renamedContents p k) (whole-renamed f k p whole) (valid-contents f (renamedContents p k) none-renamed) in
       rw numbers-renamed at (written-mapped (name (k .S) p) (colouringLayout h .kind) (letters f) (four-letters f) 0 (layouts f h) (numbers f k) (laid-layouts f h) (single-layouts f h) fits (rw numbers-renamed fits-new))
 
   -- two offices that write the same plan, each by its own names, write two sheets that differ in the names of sectors alone
   pub written-renamed : RenamedSheet f p (sheetOf f k) (sheetOf f (renamedContents p k))
   written-renamed =
       record {
-        size = length-written f (renamedContents p k) whole-renamed none-renamed ∙ sym (length-written f k whole z);
+        size = length-written f (renamedContents p k) (whole-renamed f k p whole) none-renamed ∙ sym (length-written f k whole z);
         blocks = rw (head-written f k whole z) blocks-renamed;
       }

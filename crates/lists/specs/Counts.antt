@@ -3,12 +3,14 @@
 use Prim.Native.Nat.{ℕ, _+_, _≤_, _<_}
 use native.Mathlib.Nat.{le-of-eq}
 use native.Mathlib.Omega.{arith}
-use mathlib.Core.Path.{_≡_, refl, ap}
+use mathlib.Core.Path.{_≡_, refl, ap, _∙_}
+use mathlib.Core.List.{List, [], _∷_}
 use mathlib.Core.Logic.{_≢_, _⊎_, inl, inr}
 use mathlib.Core.Bool.{Bool, true, false, _||_}
 use mathlib.Mathlib.Data.Bool.Basic.{or-inl, or-inr}
 use borrow.Author.Tests.{eqb-true, eq-eqb, ne-eqb}
 use lib.Dec.{eqb}
+use lib.ListN.{length}
 use Rattle.lists.specs.Sums.{In, bit, upTo, count}
 use Rattle.lists.specs.SumLaws.{length-from, few-bound, every-all, every-upTo, sum-same, sum-zero, sum-change}
 use Rattle.lists.specs.Tests.{bit-le}
@@ -51,6 +53,14 @@ also-old m p u h = or-inr (eqb u m) (p u) h
 pub count-also : (n m : ℕ) (p : ℕ → Bool) → In n m → p m ≡ false → count (upTo n) (also m p) ≡ count (upTo n) p + 1
 count-also n m p i f =
     count-more n m (also m p) p i (also-own m p m refl) f (λ u j ne. ap (λ (t : Bool). t || p u) (ne-eqb u m ne))
+
+-- a test that all pass counts all of 1..n
+pub count-all : (n : ℕ) → count (upTo n) (λ u. true) ≡ n
+count-all n = ones (upTo n) ∙ length-from 1 n
+  where
+    ones : (xs : List ℕ) → count xs (λ u. true) ≡ length xs
+    ones [] = refl
+    ones (x ∷ xs) = omega (arith, ones xs)
 
 -- at most n of 1..n pass a test
 pub count-le : (n : ℕ) (p : ℕ → Bool) → count (upTo n) p ≤ n

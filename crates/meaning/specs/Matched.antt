@@ -2,7 +2,7 @@
 -- Assumes nothing.
 use Prim.Native.Nat.{ℕ, _+_, _-_}
 use mathlib.Core.Path.{_≡_, refl, sym, ap, _∙_}
-use mathlib.Core.List.{List}
+use mathlib.Core.List.{List, map}
 use mathlib.Core.Bool.{Bool, true, false, cond, not}
 use Rattle.lists.specs.Sums.{In, bit, sum}
 use Rattle.lists.specs.SumLaws.{sum-map}
@@ -25,29 +25,27 @@ module _ {P : Plan} {S : ℕ} {some : ℕ → Bool} {p : ℕ → ℕ} {col col�
   abbrev Blind : (ℕ → ℕ) → Type 0
   Blind f = (c : ℕ) → In (P .S) c → some c ≡ false → f 0 ≡ 0
 
-  -- a sum over all component counts is the same
-  pub over-counts : (f : ℕ → ℕ) → Blind f → sum (counts (withSectors P S) col′) f ≡ sum (counts P col) f
-  unfolding counts ncc
-  over-counts f z =
-      sum-map (ncc P col′) (sectors (withSectors P S)) f
-      ∙ sum-onto (m .onto) (λ c. f (ncc P col c)) (λ d. f (ncc P col′ d)) (λ c i. one c i (some c) refl)
-      ∙ sym (sum-map (ncc P col) (sectors P) f)
+  -- a sum over all sectors is the same, where what is summed is f of a number that goes by a sector's regions, and is 0 without any
+  over-sectors : (X : List ℕ → ℕ → ℕ) → ((c d : ℕ) → SameRegions (P .R) col c col′ d → X col c ≡ X col′ d) → ((c : ℕ) → Empty P col c → X col c ≡ 0)
+      → (f : ℕ → ℕ) → Blind f → sum (map (X col′) (sectors (withSectors P S))) f ≡ sum (map (X col) (sectors P)) f
+  over-sectors X same none f z =
+      sum-map (X col′) (sectors (withSectors P S)) f
+      ∙ sum-onto (m .onto) (λ c. f (X col c)) (λ d. f (X col′ d)) (λ c i. one c i (some c) refl)
+      ∙ sym (sum-map (X col) (sectors P) f)
     where
-      one : (c : ℕ) → In (P .S) c → (t : Bool) → some c ≡ t → f (ncc P col c) ≡ cond t (f (ncc P col′ (p c))) 0
-      one c i true e = ap f (ncc-together (m .together) P (m .regions c i e))
-      one c i false e = ap f (empty-ncc P col c (m .empty c i e)) ∙ z c i e
+      one : (c : ℕ) → In (P .S) c → (t : Bool) → some c ≡ t → f (X col c) ≡ cond t (f (X col′ (p c))) 0
+      one c i true e = ap f (same c (p c) (m .regions c i e))
+      one c i false e = ap f (none c (m .empty c i e)) ∙ z c i e
 
-  -- and so is one over all workload sums
+  -- such a number is a sector's component count
+  over-counts : (f : ℕ → ℕ) → Blind f → sum (counts (withSectors P S) col′) f ≡ sum (counts P col) f
+  unfolding counts ncc
+  over-counts = over-sectors (ncc P) (λ c d. ncc-together (m .together) P) (empty-ncc P col)
+
+  -- and its workload sum
   pub over-loads : (f : ℕ → ℕ) → Blind f → sum (loads (withSectors P S) col′) f ≡ sum (loads P col) f
   unfolding loads load
-  over-loads f z =
-      sum-map (load P col′) (sectors (withSectors P S)) f
-      ∙ sum-onto (m .onto) (λ c. f (load P col c)) (λ d. f (load P col′ d)) (λ c i. one c i (some c) refl)
-      ∙ sym (sum-map (load P col) (sectors P) f)
-    where
-      one : (c : ℕ) → In (P .S) c → (t : Bool) → some c ≡ t → f (load P col c) ≡ cond t (f (load P col′ (p c))) 0
-      one c i true e = ap f (load-same-regions P (m .regions c i e))
-      one c i false e = ap f (empty-load P col c (m .empty c i e)) ∙ z c i e
+  over-loads = over-sectors (load P) (λ c d. load-same-regions P) (empty-load P col)
 
   -- so the violation of kind 1 is the same
   pub connected-matched : (k : Constraint) → connected (withSectors P S) col′ k ≡ connected P col k

@@ -29,7 +29,7 @@ renamedMove S p (Exchange make a b) = Exchange make a b
 renamedMove S p (Ask v) = Ask v
 renamedMove S p (Refused s) = Refused s
 
--- the last number of a move in the new names: kinds 1 and 2 have a sector there
+-- the second number of a move in the new names: kinds 1 and 2 have a sector there
 abbrev pub renamedSecond : ℕ → (ℕ → ℕ) → ℕ → ℕ → ℕ
 renamedSecond S p kind b = cond (within 1 kind 2) (name S p b) b
 

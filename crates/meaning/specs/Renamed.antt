@@ -1,14 +1,13 @@
 -- Document 02, C-18: what a plan, its verdicts and its moves mean goes by no sector's name.
 -- Assumes nothing.
 use Prim.Native.Nat.{ℕ, _-_}
-use native.Mathlib.Omega.{arith}
 use mathlib.Core.Path.{_≡_, refl, sym, ap, _∙_}
 use mathlib.Core.Bool.{true, false, false≢true}
 use mathlib.Core.List.{List, [], _∷_, map}
 use lib.IntN.{pos}
-use lib.ListN.{length}
-use Rattle.lists.specs.Sums.{In, at, upTo, count}
-use Rattle.lists.specs.SumLaws.{sum-all, length-from}
+use Rattle.lists.specs.Sums.{In, at}
+use Rattle.lists.specs.SumLaws.{sum-all}
+use Rattle.lists.specs.Counts.{count-all}
 use Rattle.lists.specs.Places.{map-set}
 use Rattle.lists.specs.Onto.{Onto}
 use Rattle.terms.specs.Distance.{distance}
@@ -24,14 +23,6 @@ use Rattle.meaning.specs.Matched.{Matched, over-loads, connected-matched
 use Rattle.meaning.specs.Names.{Renaming, name, renamed, renamedMove}
 use Rattle.meaning.specs.NameLaws.{name-sector, name-eqb, at-renamed, renamed-together}
 
--- all of 1..n are n
-count-all : (n : ℕ) → count (upTo n) (λ c. true) ≡ n
-count-all n = ones (upTo n) ∙ length-from 1 n
-  where
-    ones : (xs : List ℕ) → count xs (λ c. true) ≡ length xs
-    ones [] = refl
-    ones (x ∷ xs) = omega (arith, ones xs)
-
 module _ (P : Plan) {p : ℕ → ℕ} (r : Renaming (P .S) p) where
   -- a renaming goes one to one onto 1..S
   renaming-onto : Onto (P .S) (P .S) (λ c. true) p
@@ -40,6 +31,7 @@ module _ (P : Plan) {p : ℕ → ℕ} (r : Renaming (P .S) p) where
   -- ---- a colouring
 
   module _ (col : List ℕ) where
+    -- the colouring in the new names
     abbrev new : List ℕ
     new = renamed (P .S) p col
 
@@ -73,7 +65,7 @@ module _ (P : Plan) {p : ℕ → ℕ} (r : Renaming (P .S) p) where
     pub border-renamed : border P new ≡ border P col
     border-renamed = sym (border-together (renamed-together r col) P)
 
-    -- the violation of each constraint is
+    -- the violation of each constraint is the same
     pub violation-renamed : (k : Constraint) → violation P new k ≡ violation P col k
     unfolding violation deviation bounded
     violation-renamed k =
@@ -85,21 +77,22 @@ module _ (P : Plan) {p : ℕ → ℕ} (r : Renaming (P .S) p) where
           sym (dwelling-together (renamed-together r col) P k),
         )
 
-    -- the total is
+    -- so the total is the same
     pub total-renamed : total P new ≡ total P col
     unfolding total
     total-renamed = sum-all (P .constraints) _ _ (λ k. rw (violation-renamed k))
 
-    -- the verdicts are
+    -- the verdicts on some constraints are the same
     verdicts-of-renamed : (ks : List Constraint) → verdictsOf P new ks ≡ verdictsOf P col ks
     unfolding verdictsOf verdict holds
     verdicts-of-renamed [] = refl
     verdicts-of-renamed (k ∷ ks) = rw (violation-renamed k, verdicts-of-renamed ks)
 
+    -- so those on all are
     pub verdicts-renamed : verdicts P new ≡ verdicts P col
     verdicts-renamed = verdicts-of-renamed (P .constraints)
 
-    -- a region's violation is
+    -- a region's violation is the same
     pub region-renamed : (v : ℕ) → regionViolation P new v ≡ regionViolation P col v
     unfolding regionViolation partOf
     region-renamed v =
@@ -126,7 +119,7 @@ module _ (P : Plan) {p : ℕ → ℕ} (r : Renaming (P .S) p) where
       rw (at-renamed (P .S) p col a, at-renamed (P .S) p col b, recolour-renamed col a (at col b)) (recolour-renamed (recolour col a (at col b)) b (at col a))
 
   -- the colouring after a move is that after the move, in the new names
-  pub next-renamed : (col : List ℕ) (m : Move) → next (renamed (P .S) p col) (renamedMove (P .S) p m) ≡ renamed (P .S) p (next col m)
+  next-renamed : (col : List ℕ) (m : Move) → next (renamed (P .S) p col) (renamedMove (P .S) p m) ≡ renamed (P .S) p (next col m)
   unfolding next
   next-renamed col (Recolour true v c) = recolour-renamed col (v .0) (c .0)
   next-renamed col (Recolour false v c) = refl
@@ -135,7 +128,7 @@ module _ (P : Plan) {p : ℕ → ℕ} (r : Renaming (P .S) p) where
   next-renamed col (Ask v) = refl
   next-renamed col (Refused s) = refl
 
-  -- the delta is the same
+  -- the delta of a move is the same
   delta-renamed : (col : List ℕ) (m : Move) → delta P (renamed (P .S) p col) (renamedMove (P .S) p m) ≡ delta P col m
   unfolding delta
   delta-renamed col (Recolour make v c) =
@@ -144,15 +137,15 @@ module _ (P : Plan) {p : ℕ → ℕ} (r : Renaming (P .S) p) where
   delta-renamed col (Ask v) = ap pos (region-renamed col (v .0))
   delta-renamed col (Refused s) = refl
 
-  -- and the status
+  -- its status is
   status-renamed : (m : Move) → status (renamedMove (P .S) p m) ≡ status m
   status-renamed (Recolour make v c) = refl
   status-renamed (Exchange make a b) = refl
   status-renamed (Ask v) = refl
   status-renamed (Refused s) = refl
 
-  -- and the whole row
-  pub row-renamed : (col : List ℕ) (m : Move) → row P (renamed (P .S) p col) (renamedMove (P .S) p m) ≡ row P col m
+  -- so its whole row is
+  row-renamed : (col : List ℕ) (m : Move) → row P (renamed (P .S) p col) (renamedMove (P .S) p m) ≡ row P col m
   unfolding row
   row-renamed col m =
       rw (

@@ -44,7 +44,7 @@ module _ {col col′ : List ℕ} (t : Together col col′) where
   before-together v ((w ∷ s) ∷ ss) = rw (t .pair (v .region) (w .region))
 
   -- a flight has the same stretches
-  pub stretches-together : (flight : List Visit) → stretches col flight ≡ stretches col′ flight
+  stretches-together : (flight : List Visit) → stretches col flight ≡ stretches col′ flight
   unfolding stretches
   stretches-together [] = refl
   stretches-together (v ∷ vs) = before-together v (stretches col vs) ∙ ap (before col′ v) (stretches-together vs)

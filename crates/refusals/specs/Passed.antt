@@ -113,6 +113,14 @@ passed-records width low high xs e =
     let p = both (eqb (length xs % width) 0) (within low (length xs / width) high) (whole-right (records width low high xs) e) in
     (eqb→eq _ _ (p .0), within-limits low (length xs / width) high (p .1))
 
+-- ---- a row on each item
+
+-- tests that agree have one first place where they fail
+pub off-same : (k n : ℕ) (s t : ℕ → Bool) → ((j : ℕ) → s j ≡ t j) → offFrom k n s ≡ offFrom k n t
+unfolding offFrom
+off-same k zero s t h = refl
+off-same k (suc n) s t h = rw (h k, off-same (suc k) n s t h)
+
 -- ---- a row on each item that is not given
 
 module _ (right : ℕ → Bool) where

@@ -1,20 +1,14 @@
 -- Document 02, C-18: refused numbers keep their refusals, whatever the names of the sectors.
 -- Assumes nothing.
-use Prim.Native.Nat.{ℕ, zero, suc}
+use Prim.Native.Nat.{ℕ, suc}
 use mathlib.Core.Path.{_≡_, refl, ap}
-use mathlib.Core.Bool.{Bool}
 use mathlib.Core.List.{List, [], _∷_}
 use lib.ListN.{length, getD, length-map}
 use Rattle.meaning.specs.Names.{Renaming, name, renamed, renamedMoves}
 use Rattle.meaning.specs.NameLaws.{getD-renamed, name-within}
-use Rattle.scans.specs.Items.{offFrom, sectorRight}
+use Rattle.scans.specs.Items.{sectorRight}
 use Rattle.refusals.specs.Table.{planTable, roomTable}
-
--- tests that agree have one first place where they fail
-off-same : (k n : ℕ) (s t : ℕ → Bool) → ((j : ℕ) → s j ≡ t j) → offFrom k n s ≡ offFrom k n t
-unfolding offFrom
-off-same k zero s t h = refl
-off-same k (suc n) s t h = rw (h k, off-same (suc k) n s t h)
+use Rattle.refusals.specs.Passed.{off-same}
 
 -- a number of the colouring is a sector where its new name is
 sector-renamed : {S : ℕ} {p : ℕ → ℕ} → Renaming S p → (col : List ℕ) (k : ℕ) → sectorRight S (renamed S p col) k ≡ sectorRight S col k

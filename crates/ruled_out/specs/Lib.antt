@@ -1,3 +1,4 @@
 pub mod Bytes
 pub mod Reader
 pub mod Sheets
+pub mod Names

@@ -50,6 +50,16 @@ fn sheet_a_under_two_numberings() {
     }
 }
 
+/// The second office of docs/DESK.md, which calls sector 1 "2" and sector 2 "1".
+#[test]
+fn the_desks_second_office() {
+    let theirs = Numbers { colouring: vec![2, 2, 2, 1, 1], ..sheet_a() };
+    let (answer, memory) = asked(&theirs, [[1, 2, 1], [1, 2, 2], [1, 5, 3]].as_flattened());
+    assert_eq!(answer, [0, 0, 15, 15]);
+    assert_eq!(memory.rows.content(), [[0, 307, 15, 0], [0, 0, 15, 0], [23, 0, 15, 0]].as_flattened());
+    assert_eq!(memory.work.content(), [1, 1, 1, 4, 4, 1, 1, 40, 60, 2]);
+}
+
 /// What the other office lends: in its rooms stands something else.
 fn lent(theirs: &Call) -> Memory {
     let mut memory = Memory::of(theirs);
@@ -165,7 +175,7 @@ fn the_largest_plan() {
     all_cases("the largest plan, renamed", [Renamed::new(Call::new(plan, moves), &reversal)]);
 }
 
-/// A callee that finds no difference in a recolouring into sector 1.
+/// A callee whose probes into sector 1 have delta 0.
 fn partial(memory: &mut Memory) -> Answer {
     let answer = by_library(memory);
     if answer[0] == 0 {
@@ -176,7 +186,7 @@ fn partial(memory: &mut Memory) -> Answer {
 }
 
 #[test]
-fn a_partial_callee_is_found() {
+fn a_callee_that_goes_by_a_name_is_found() {
     let mut random = Random::new(1);
     let calls: Vec<Call> = (0..100).map(|_| Call::random(&mut random)).collect();
     assert!(calls.into_iter().any(|call| Renamed::random(&mut random, call).compare_by(partial).is_err()));

@@ -20,6 +20,18 @@ fn sheet_a_in_five_lines() {
     }
 }
 
+/// The second office of docs/DESK.md: its sheet A prints the same, and differs in block 4 alone.
+#[test]
+fn the_desks_second_office() {
+    let theirs = Numbers { colouring: vec![2, 2, 2, 1, 1], ..sheet_a() };
+    let [ours, theirs] = [sheet_a(), theirs].map(|plan| Sheet::of(&FIRST, plan).bytes());
+    let differ: Vec<bool> = ours.chunks(BLOCK).zip(theirs.chunks(BLOCK)).map(|(ours, theirs)| ours != theirs).collect();
+    assert_eq!(differ, [false, false, false, false, true]);
+    for bytes in [ours, theirs] {
+        assert_eq!(printed(&bytes), "1 1 1 0\n2 2 1 0\n3 3 1 0\n4 4 0 5\ntotal 15\n");
+    }
+}
+
 impl Renamed<Writing> {
     /// The code that both are given, or in words where this writer doesn't treat them alike.
     fn compare_by(&self, write: fn(&mut writing::Memory) -> writing::Answer) -> Result<Code, String> {
@@ -155,7 +167,7 @@ fn sheet_files() {
 }
 
 /// A change to a sheet's bytes that is the same under all names: a byte of the colouring becomes one that names no sector, or
-/// something is changed besides S and the colouring.
+/// something is changed besides S, the sectors in the colouring's blocks and the checks of these.
 fn nameless_change(random: &mut Random, sheet: &Sheet) -> Change {
     let bytes = sheet.bytes();
     if random.once_in(4) {
@@ -164,7 +176,12 @@ fn nameless_change(random: &mut Random, sheet: &Sheet) -> Change {
         let place = (first + region / PAYLOAD) * BLOCK + PREFIX + region % PAYLOAD;
         return Change::Put(place, random.pick(&[0, sheet.plan.sectors as u8 + 1, 255]));
     }
-    let named = |place: usize| (PREFIX + 2..PREFIX + 4).contains(&place) || bytes.get(place / BLOCK * BLOCK + 4) == Some(&5);
+    let named = |place: usize| {
+        let block = bytes.get(place / BLOCK * BLOCK..).unwrap_or_default();
+        let used = block.get(8..10).map_or(0, |used| usize::from(used[0]) + 256 * usize::from(used[1]));
+        let sectors = (PREFIX..PREFIX + used).contains(&(place % BLOCK)) || place % BLOCK >= PREFIX + PAYLOAD;
+        (PREFIX + 2..PREFIX + 4).contains(&place) || block.get(4) == Some(&5) && sectors
+    };
     loop {
         let change = Change::random(random, sheet.blocks());
         let mut changed = match change {
