@@ -127,7 +127,7 @@ module _ {letters : List ℕ} {kind number used : ℕ} {block : List ℕ} where
       }
 
   -- and nothing is wrong where they are
-  pub right-none : Right letters kind number used block → wrong letters kind number used block ≡ 0
+  right-none : Right letters kind number used block → wrong letters kind number used block ≡ 0
   unfolding wrong firstWrong
   right-none r =
       let h = r .headed in

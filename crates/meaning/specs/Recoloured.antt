@@ -8,14 +8,14 @@ use mathlib.Core.List.{List}
 use mathlib.Core.Logic.{_≢_}
 use mathlib.Core.Bool.{cond}
 use borrow.Author.Tests.{eq-eqb, ne-eqb}
-use lib.ListN.{length-set, set}
+use lib.ListN.{length-set}
 use lib.Dec.{eqb}
 use Rattle.lists.specs.Sums.{In, at}
 use Rattle.lists.specs.SumLaws.{sum-change}
-use Rattle.lists.specs.Places.{at-set, at-set-other, table-change}
+use Rattle.lists.specs.Places.{at-set, at-set-other}
 use Rattle.meaning.specs.Plan.{Plan, Limits, Coloured}
 use Rattle.meaning.specs.Joined.{Joined, labels}
-use Rattle.meaning.specs.Kinds.{ncc, load, border, counts, loads}
+use Rattle.meaning.specs.Kinds.{ncc, load, border}
 use Rattle.meaning.specs.Moves.{recolour}
 use Rattle.meaning.specs.Paths.{limits-ends}
 use Rattle.meaning.specs.Labels.{plan-labels}
@@ -55,11 +55,6 @@ module _ {P : Plan} {col : List ℕ} {v d : ℕ} (k : Coloured P col) (i : In (P
     pub load-rest : (e : ℕ) → In (P .S) e → e ≢ d → e ≢ at col v → load P (recolour col v d) e ≡ load P col e
     load-rest e _ n m = omega (arith, rw (ne-eqb d e (λ z. n (sym z)), ne-eqb (at col v) e (λ z. m (sym z))) at (load-change e))
 
-    -- the workloads afterwards: two of those before are set anew
-    pub loads-recolour : loads P (recolour col v d) ≡ set (set (loads P col) (at col v - 1) (load P (recolour col v d) (at col v))) (d - 1) (load P (recolour col v d) d)
-    unfolding loads
-    loads-recolour = table-change (load P (recolour col v d)) (load P col) (k .sector v i) j (λ e h n m. load-rest e h m n)
-
 module _ {P : Plan} {col : List ℕ} {v d : ℕ} (l : Limits P) (k : Coloured P col) (i : In (P .R) v) (j : In (P .S) d) where
   -- v comes to sector d
   come : Put (P .R) (lift col v) (recolour col v d) v d
@@ -92,8 +87,3 @@ module _ {P : Plan} {col : List ℕ} {v d : ℕ} (l : Limits P) (k : Coloured P 
     -- every other sector has as many components as before
     pub ncc-rest : (e : ℕ) → In (P .S) e → e ≢ d → e ≢ at col v → ncc P (recolour col v d) e ≡ ncc P col e
     ncc-rest e h n m = ncc-else l come e (h .low) n ∙ sym (ncc-else l gone e (h .low) m)
-
-    -- the component counts afterwards: two of those before are set anew
-    pub counts-recolour : counts P (recolour col v d) ≡ set (set (counts P col) (at col v - 1) (ncc P (recolour col v d) (at col v))) (d - 1) (ncc P (recolour col v d) d)
-    unfolding counts
-    counts-recolour = table-change (ncc P (recolour col v d)) (ncc P col) (k .sector v i) j (λ e h n m. ncc-rest e h m n)

@@ -85,7 +85,7 @@ turn-more f [] more = refl
 turn-more f (r ∷ rs) more = turn-more (after f r) rs more
 
 -- its last rows in turn, from the refusal of its first, give its refusal
-pub in-turn-more : (rows more : List Row) → T (coded rows) → T (coded (rows ++ more)) → inTurn (refusal rows) more ≡ refusal (rows ++ more)
+in-turn-more : (rows more : List Row) → T (coded rows) → T (coded (rows ++ more)) → inTurn (refusal rows) more ≡ refusal (rows ++ more)
 in-turn-more rows more t u =
     ap (λ (f : Refusal). inTurn f more) (sym (in-turn rows t)) ∙ turn-more none rows more ∙ in-turn (rows ++ more) u
 

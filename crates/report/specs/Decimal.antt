@@ -10,6 +10,7 @@ use borrow.Author.Tests.{ltb-true, ltb-false, lt-ltb}
 use lib.Dec.{ltb}
 use lib.ListN.{length, getD, length-append}
 use Rattle.lists.specs.Sums.{Every}
+use Rattle.lists.specs.SumLaws.{every-append}
 use Rattle.io.specs.Digits.{digits, Fewest}
 
 -- the ASCII code of a digit of 0..9
@@ -70,10 +71,6 @@ module _ (P : ℕ → List ℕ → Type 0) (one : (n : ℕ) → n < 10 → P n (
 read-append : (n : ℕ) (s t : List ℕ) → read n (s ++ t) ≡ read (read n s) t
 read-append n [] t = refl
 read-append n (c ∷ s) t = read-append (10 * n + (c - digit 0)) s t
-
-every-append : (P : ℕ → Type 0) (s t : List ℕ) → Every P s → Every P t → Every P (s ++ t)
-every-append P [] t p q = q
-every-append P (c ∷ s) t p q = (p .0, every-append P s t (p .1) q)
 
 -- n in decimal is a text of n
 pub decimal-spells : (n : ℕ) → Spells n (decimal n)

@@ -32,6 +32,7 @@ exchanged-renaming = record { within = λ c i. record { low = omega (arith, i .h
 abbrev theirs : List ℕ
 theirs = renamed 2 exchanged ours
 
+-- there is a sector 1
 first : In 2 1
 first = record { low = omega arith; high = omega arith }
 
