@@ -77,7 +77,7 @@ pub record Laid (l : Layout) : Type 0 where
 
 module _ {l : Layout} (p : Laid l) where
   -- then the section is sized
-  laid-sized : Sized (sectionOf l)
+  pub laid-sized : Sized (sectionOf l)
   laid-sized = record { low = p .low; high = p .high }
 
   -- and in whole records
@@ -107,7 +107,8 @@ module _ {l : Layout} (p : Laid l) where
       → sheetFrom letters n (sectionDues s) (pack (rep (s .bytes / total (l .widths)) (l .widths)) xs) ≡ blocksAt letters l n xs
   laid-written e letters n xs = rw (laid-count e, e)
 
-  length-own : length (sectionDues (sectionOf l)) ≡ blocksIn l
+  -- it has as many blocks as are counted
+  pub length-own : length (sectionDues (sectionOf l)) ≡ blocksIn l
   length-own = length-dues (l .kind) (l .size) (blocksIn l) (sectionOf l .bytes)
 
   -- its bytes are those that its blocks are used for
@@ -134,6 +135,11 @@ pub length-numbers : (l : Layout) (n : ℕ) (sheet : List ℕ) → length (numbe
 length-numbers l n sheet = length-unpack (rep (l .count) (l .widths)) _ ∙ length-rep (l .count) (l .widths)
 
 module _ (letters : List ℕ) (four : length letters ≡ lettersLength) where
+  -- what is written of a layout is as long as its blocks are many
+  pub length-blocks : {l : Layout} → Laid l → (n : ℕ) (xs : List ℕ) → length (blocksAt letters l n xs) ≡ blockLength * blocksIn l
+  length-blocks {l} laid n xs =
+      length-sheet letters four n (sectionDues (sectionOf l)) (pack (rep (l .count) (l .widths)) xs) (small-dues (sectionOf l) (laid-sized laid)) ∙ rw (length-own laid)
+
   -- blocks of which none is refused are what is written of the numbers that are read from them
   pub written-read : (n : ℕ) (ls : List Layout) (sheet : List ℕ) → Every Laid ls → Bytes sheet → length sheet ≡ blockLength * (n + length (allDues ls))
       → faultFrom letters n (allDues ls) (drop (blockLength * n) sheet) .code ≡ 0 → writtenFrom letters n ls (readFrom n ls sheet) ≡ drop (blockLength * n) sheet

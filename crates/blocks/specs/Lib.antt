@@ -16,3 +16,5 @@ pub mod Whole
 pub mod SectionRead
 pub mod SectionWritten
 pub mod Mapped
+pub mod Anew
+pub mod Placed

@@ -1,6 +1,6 @@
 -- Blocks that differ in their payloads alone: each byte of the one is f of that byte of the other.
 -- Assumes nothing.
-use Prim.Native.Nat.{ℕ, zero, suc, _+_, _-_, _*_, _≤_, min}
+use Prim.Native.Nat.{ℕ, zero, suc, _+_, _-_, _*_, _≤_, _<_, min}
 use native.Mathlib.Nat.{add-zero}
 use native.Mathlib.Decide.{ℕ-discrete}
 use native.Mathlib.Omega.{arith}
@@ -10,8 +10,8 @@ use mathlib.Core.Bool.{Bool, cond}
 use mathlib.Core.List.{List, [], _∷_, _++_, map, map-id, map-append, append-assoc}
 use borrow.Author.Tests.{eq-eqb, ne-eqb}
 use lib.Dec.{eqb}
-use lib.ListN.{length, take, drop, length-map, length-drop, take-append-drop}
-use lib.Seq.{take-at, drop-at, length-take-le}
+use lib.ListN.{length, getD, take, drop, length-map, length-drop, take-append-drop}
+use lib.Seq.{take-at, drop-at, drop-cons, drop-drop, length-take-le}
 use Rattle.lists.specs.Sums.{Every}
 use Rattle.packing.specs.Part.{part, part-take}
 use Rattle.packing.specs.Numbers.{Fits, pack, unpack, rep, length-fits, length-pack}
@@ -20,8 +20,8 @@ use Rattle.blocks.specs.Fletcher.{check}
 use Rattle.blocks.specs.Same.{same, eq-same}
 use Rattle.blocks.specs.Block.{blockLength, lettersLength, kindAt, zeroAt, numberAt, usedAt, headerLength, mostPayload, checkedLength, blockOf, payloadOf, wrong}
 use Rattle.blocks.specs.BlockLaws.{headed-header, Right, right-of, block-payload, length-block, block-right}
-use Rattle.blocks.specs.Section.{due, duesFrom, sectionDues, usedAll}
-use Rattle.blocks.specs.Sheet.{sheetFrom, streamFrom, orLater, faultFrom}
+use Rattle.blocks.specs.Section.{due, noDue, duesFrom, sectionDues, usedAll}
+use Rattle.blocks.specs.Sheet.{blockAt, sheetFrom, streamFrom, orLater, faultFrom, faultWithin}
 use Rattle.blocks.specs.SheetLaws.{block-drop}
 use Rattle.blocks.specs.Layout.{Layout, sectionOf, allDues, blocksIn, writtenFrom, numbersAt, readFrom, AllFit, Laid, used-own, next-drop}
 
@@ -113,6 +113,29 @@ module _ (f : ℕ → ℕ) (kind : ℕ) where
   fault-mapped letters n (d ∷ ds) a b m =
       ap₂ (λ w r. orLater w n r) (wrong-mapped (due-mapped d (m .0)) letters (d .kind) n)
       (fault-mapped letters (suc n) ds (drop blockLength a) (drop blockLength b) (m .1))
+
+  -- from a later block on
+  mapped-drop : (k : ℕ) (ds : List Due) (a b : List ℕ) → MappedFrom f kind ds a b → MappedFrom f kind (drop k ds) (drop (blockLength * k) a) (drop (blockLength * k) b)
+  mapped-drop zero ds a b m = m
+  mapped-drop (suc k) [] a b m = tt
+  mapped-drop (suc k) (d ∷ ds) a b m =
+      let e : blockLength + blockLength * k ≡ blockLength * suc k = omega arith in
+      rw (drop-drop (blockLength * k) blockLength a, drop-drop (blockLength * k) blockLength b, e) at (mapped-drop k ds (drop blockLength a) (drop blockLength b) (m .1))
+
+  -- up to a later block
+  mapped-take : (k : ℕ) (ds : List Due) (a b : List ℕ) → MappedFrom f kind ds a b → MappedFrom f kind (take k ds) a b
+  mapped-take zero ds a b m = tt
+  mapped-take (suc k) [] a b m = tt
+  mapped-take (suc k) (d ∷ ds) a b m = (m .0, mapped-take k ds (drop blockLength a) (drop blockLength b) (m .1))
+
+  module _ (letters : List ℕ) (ds : List Due) (a b : List ℕ) (m : MappedFrom f kind ds a b) where
+    -- so it is between two blocks
+    pub part-mapped : (from to : ℕ) → faultWithin letters ds b from to ≡ faultWithin letters ds a from to
+    part-mapped from to = fault-mapped letters from (part from to ds) _ _ (mapped-take (to - from) (drop from ds) _ _ (mapped-drop from ds a b m))
+
+    -- and of each block that is due the same is wrong
+    pub block-wrong : (n : ℕ) → n < length ds → let d = getD ds n noDue in wrong letters (d .kind) n (d .used) (blockAt b n) ≡ wrong letters (d .kind) n (d .used) (blockAt a n)
+    block-wrong n h = wrong-mapped (due-mapped (getD ds n noDue) ((rw (drop-cons ds n noDue h) at (mapped-drop n ds a b m)) .0)) letters (getD ds n noDue .kind) n
 
   -- ---- blocks that are read
 

@@ -1,6 +1,6 @@
 -- Blocks gone through in turn for the first that is refused.
 -- Assumes nothing.
-use Prim.Native.Nat.{ℕ, zero, suc, _+_, _*_, _≤_, _<_}
+use Prim.Native.Nat.{ℕ, _+_, _*_, _≤_, _<_}
 use native.Mathlib.Numerals.{add-one}
 use native.Mathlib.Omega.{arith}
 use mathlib.Core.Path.{_≡_, refl, sym, ap, _∙_}
@@ -9,12 +9,12 @@ use mathlib.Core.Logic.{_≢_}
 use lib.ListN.{length, getD, drop}
 use lib.Seq.{drop-drop}
 use Rattle.packing.specs.Part.{part, part-none, part-cons}
-use Rattle.refusals.specs.declared.Refusal.{Refusal}
 use Rattle.refusals.specs.Table.{refused, none}
 use Rattle.blocks.specs.declared.Due.{Due}
 use Rattle.blocks.specs.Block.{blockLength, wrong}
 use Rattle.blocks.specs.Section.{noDue}
 use Rattle.blocks.specs.Sheet.{blockAt, orLater, faultFrom}
+use Rattle.blocks.specs.SheetLaws.{or-later-some}
 
 -- of the blocks from block `from` up to block `to` none before block n is refused: the first of the others that is is the first of all
 pub record Scan (letters sheet : List ℕ) (ds : List Due) (from to n : ℕ) : Type 0 where
@@ -24,10 +24,6 @@ pub record Scan (letters sheet : List ℕ) (ds : List Due) (from to n : ℕ) : T
 -- none is gone through
 pub scan-start : {letters sheet : List ℕ} {ds : List Due} {from to : ℕ} → to ≤ length ds → Scan letters sheet ds from to from
 scan-start h = record { inside = h; rest = refl }
-
-or-later-some : (w n : ℕ) (later : Refusal) → w ≢ 0 → orLater w n later ≡ refused w n
-or-later-some zero n later h = absurd (h refl)
-or-later-some (suc w) n later h = refl
 
 module _ {letters sheet : List ℕ} {ds : List Due} {from to n : ℕ} (s : Scan letters sheet ds from to n) where
   -- none is refused

@@ -4,11 +4,12 @@ use Prim.Native.Nat.{ℕ, zero, suc, _+_, _-_, _*_, _/_, _≤_, _<_, min}
 use native.Mathlib.Nat.{zero-mul, suc-mul, add-mul, div-eq-of-lt, add-div-right, lt-div-mul-add, le-div-iff-mul-le}
 use native.Mathlib.Decide.{decLt}
 use native.Mathlib.Omega.{arith}
-use mathlib.Core.Path.{_≡_, refl, ap, _∙_}
-use mathlib.Core.List.{List, [], _∷_, _++_, append-nil}
+use mathlib.Core.Path.{_≡_, refl, sym, ap, _∙_}
+use mathlib.Core.List.{List, [], _∷_, _++_, append-nil, append-assoc}
 use lib.ListN.{length, getD, length-append, List·getD-append}
 use lib.Seq.{getD-append-add}
 use Rattle.lists.specs.Sums.{Every}
+use Rattle.packing.specs.Part.{part, part-middle}
 use Rattle.blocks.specs.declared.Section.{Section}
 use Rattle.blocks.specs.declared.Due.{Due}
 use Rattle.blocks.specs.Block.{mostPayload}
@@ -78,6 +79,17 @@ module _ (s : Section) (ss : List Section) where
   due-later n h =
       let e : n ≡ length (sectionDues s) + (n - blocksOf s) = omega (arith, long) in
       ap (λ (k : ℕ). getD (dueOf (s ∷ ss)) k noDue) e ∙ getD-append-add (sectionDues s) (dueOf ss) (n - blocksOf s) noDue
+
+-- the blocks of some sections, and then of others
+due-append : (ss ts : List Section) → dueOf (ss ++ ts) ≡ dueOf ss ++ dueOf ts
+due-append [] ts = refl
+due-append (s ∷ ss) ts = ap (λ (ds : List Due). sectionDues s ++ ds) (due-append ss ts) ∙ sym (append-assoc (sectionDues s) (dueOf ss) (dueOf ts))
+
+-- of the blocks of all sections, those of one among them
+pub due-part : (ss : List Section) (s : Section) (ts : List Section) (first next : ℕ) → length (dueOf ss) ≡ first → first + blocksOf s ≡ next
+    → part first next (dueOf (ss ++ (s ∷ ts))) ≡ sectionDues s
+due-part ss s ts first next h k =
+    ap (part first next) (due-append ss (s ∷ ts)) ∙ part-middle (dueOf ss) (sectionDues s) (dueOf ts) first next h (long s ts ∙ omega arith)
 
 -- a section that has bytes: its first block, and those for the bytes that it does not hold
 pub dues-first : (kind size bytes : ℕ) → 1 ≤ size → 1 ≤ bytes → sectionDues (section kind size bytes) ≡ due kind (min size bytes) ∷ sectionDues (section kind size (bytes - size))

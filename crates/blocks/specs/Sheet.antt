@@ -3,6 +3,7 @@
 use Prim.Native.Nat.{ℕ, zero, suc, _*_}
 use mathlib.Core.List.{List, [], _∷_, _++_}
 use lib.ListN.{take, drop}
+use Rattle.packing.specs.Part.{part}
 use Rattle.refusals.specs.declared.Refusal.{Refusal}
 use Rattle.refusals.specs.Table.{refused, none}
 use Rattle.blocks.specs.declared.Due.{Due}
@@ -33,3 +34,7 @@ abbrev pub faultFrom : List ℕ → ℕ → List Due → List ℕ → Refusal
 faultFrom letters n [] sheet = none
 faultFrom letters n (d ∷ ds) sheet =
     orLater (wrong letters (d .kind) n (d .used) (take blockLength sheet)) n (faultFrom letters (suc n) ds (drop blockLength sheet))
+
+-- the first of the blocks from block `from` up to block `to` that is refused
+abbrev pub faultWithin : List ℕ → List Due → List ℕ → ℕ → ℕ → Refusal
+faultWithin letters ds sheet from to = faultFrom letters from (part from to ds) (drop (blockLength * from) sheet)

@@ -3,13 +3,13 @@ ghost use mathlib.Core.Path.{_≡_};
 ghost use mathlib.Core.Bool.{_&&_};
 ghost use mathlib.Core.List.{[], _∷_};
 ghost use Prim.Native.Nat.{_+_, _-_, _*_, _≤_};
-ghost use lib.ListN.{length, drop, replicate};
+ghost use lib.ListN.{length, replicate};
 ghost use Rattle.packing.specs.Part.{part};
 ghost use Rattle.blocks.specs.Fletcher.{check};
 ghost use Rattle.blocks.specs.Same.{same};
 ghost use Rattle.blocks.specs.Block.{blockLength, lettersLength, kindAt, zeroAt, numberAt, usedAt, headerLength, mostPayload, checkedLength, firstWrong, wrong};
 ghost use Rattle.blocks.specs.Section.{dueOf, sectionsOf, Sections};
-ghost use Rattle.blocks.specs.Sheet.{blockAt, faultFrom};
+ghost use Rattle.blocks.specs.Sheet.{blockAt, faultWithin};
 use crate::BLOCK_LENGTH;
 use crate::CHECKED_LENGTH;
 use crate::HEADER_LENGTH;
@@ -164,7 +164,7 @@ pub fn first_fault(
     requires { ⌜ length (now letters) ≡ lettersLength ⌝ }
     requires { ⌜ Sections (now kinds) (now sizes) (now bytes) ⌝ }
     requires { ⌜ (to ≤ length (dueOf (sectionsOf (now kinds) (now sizes) (now bytes)))) × (blockLength * to ≤ length (now sheet)) ⌝ }
-    ensures { λ f. ⌜ f ≡ faultFrom (now (letters .entry)) from (part from to (dueOf (sectionsOf (now (kinds .entry)) (now (sizes .entry)) (now (bytes .entry))))) (drop (blockLength * from) (now (sheet .entry))) ⌝ }
+    ensures { λ f. ⌜ f ≡ faultWithin (now (letters .entry)) (dueOf (sectionsOf (now (kinds .entry)) (now (sizes .entry)) (now (bytes .entry)))) (now (sheet .entry)) from to ⌝ }
 {
     let mut number = from;
     while number < to {

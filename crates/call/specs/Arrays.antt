@@ -2,13 +2,14 @@
 -- Assumes nothing.
 use Prim.Native.Nat.{ℕ, _+_, _-_, _*_, _/_, _≤_}
 use native.Mathlib.Omega.{arith}
-use mathlib.Core.Path.{_≡_, refl, ap, _∙_}
+use mathlib.Core.Path.{_≡_, refl, _∙_}
 use mathlib.Core.List.{List, _++_}
-use lib.ListN.{length, take, drop, replicate, length-replicate}
-use lib.Seq.{length-take-le, length-front, take-at}
+use lib.ListN.{length, take, drop}
+use lib.Seq.{length-take-le}
 use Rattle.lists.specs.Sums.{sum}
 use Rattle.lists.specs.SumLaws.{few-bound, every-turn}
 use Rattle.lists.specs.ListLaws.{length-listOf}
+use Rattle.lists.specs.Fronts.{zeros, zeros-room, back-room, take-back, back-length}
 use Rattle.meaning.specs.Plan.{Plan, planOf, edgeLength, visitLength, constraintLength, edgeAt, edgesOf, constraintsOf, mostRegions, mostSectors, mostEdges, mostFlights, mostVisits, mostConstraints}
 use Rattle.meaning.specs.Flights.{length-flightsOf}
 use Rattle.meaning.specs.Paths.{Ends, limits-ends}
@@ -23,32 +24,6 @@ use Rattle.neighbours.specs.Table.{Table}
 use Rattle.engine.specs.State.{Setting, Opening}
 use Rattle.engine.specs.Sorted.{Sorted, sorted-paying}
 use Rattle.engine.specs.Flown.{Priced, Flown}
-
--- an array of N zeros
-abbrev pub zeros : ℕ → List ℕ
-zeros N = replicate N 0
-
--- it has N numbers
-length-zeros : (N : ℕ) → length (zeros N) ≡ N
-length-zeros N = length-replicate {A = ℕ} N 0
-
--- and room for as many as are asked for
-pub zeros-room : (N : ℕ) {n : ℕ} → n ≤ N → n ≤ length (zeros N)
-zeros-room N h = rw (length-zeros N) h
-
--- where the front of a list was lent and came back as f
-module _ (n : ℕ) (xs : List ℕ) (h : n ≤ length xs) (f : List ℕ) (k : length f ≡ length (take n xs)) where
-  -- it has room for the front still
-  pub back-room : n ≤ length (f ++ drop n xs)
-  back-room = rw (length-front xs f n k) h
-
-  -- its front is f
-  pub take-back : take n (f ++ drop n xs) ≡ f
-  take-back = take-at f (drop n xs) n (k ∙ length-take-le n xs h)
-
-  -- and as long as was asked for
-  pub back-length : length (take n (f ++ drop n xs)) ≡ n
-  back-length = ap length take-back ∙ k ∙ length-take-le n xs h
 
 -- ---- what a valid call lends
 

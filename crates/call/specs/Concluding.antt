@@ -10,6 +10,7 @@ use Rattle.lists.specs.Sums.{from}
 use Rattle.lists.specs.SumLaws.{every-from}
 use Rattle.lists.specs.ListLaws.{map-ext}
 use Rattle.lists.specs.Few.{Few}
+use Rattle.lists.specs.Fronts.{zeros, zeros-room, back-room, take-back, back-length}
 use Rattle.meaning.specs.Plan.{Plan, Limits, flightsOf, constraintsOf, mostSectors, mostConstraints}
 use Rattle.meaning.specs.Kinds.{dwelling}
 use Rattle.meaning.specs.Bounds.{mostLoad}
@@ -25,7 +26,6 @@ use Rattle.engine.specs.declared.Standing.{Standing}
 use Rattle.engine.specs.State.{Ready}
 use Rattle.engine.specs.Remade.{ready-kept}
 use Rattle.engine.specs.Opening.{secondPart, loads-read}
-use Rattle.call.specs.Arrays.{zeros, zeros-room, back-room, take-back, back-length}
 
 -- constraints, flights over the regions of a colouring, workloads of sectors and figures, as small as in a plan within its limits
 pub record Concluding (constraints counts visits loads col : List ℕ) (F : Figures) : Type 0 where

@@ -1,12 +1,12 @@
 -- What follows where nothing of a sheet is refused, and what is enough for that.
 -- Assumes nothing.
-use Prim.Native.Nat.{ℕ, _*_, _/_, _%_, _≤_}
+use Prim.Native.Nat.{ℕ, zero, suc, _*_, _/_, _%_, _≤_}
 use native.Mathlib.Decide.{ℕ-discrete}
 use native.Mathlib.Omega.{arith}
 use mathlib.Core.Path.{_≡_, refl, sym, subst, _∙_}
 use mathlib.Core.Bool.{Bool, true, false, cond, not}
 use mathlib.Core.List.{List, [], _∷_, _++_}
-use borrow.Author.Tests.{eqb-true, eqb-false, eq-eqb, le-leb, not-true, not-false}
+use borrow.Author.Tests.{eqb-true, eqb-false, eq-eqb, ne-eqb, le-leb, not-true, not-false}
 use lib.Dec.{eqb, leb, T, leb→le}
 use lib.ListN.{length, take}
 use lib.Seq.{take-take}
@@ -15,19 +15,19 @@ use Rattle.lists.specs.SumLaws.{every-append}
 use Rattle.terms.specs.Plan.{within}
 use Rattle.meaning.specs.Plan.{mostRegions, mostSectors, mostEdges, mostConstraints, mostVisits}
 use Rattle.refusals.specs.declared.Refusal.{Refusal}
-use Rattle.refusals.specs.Table.{Row, whole, refusal, none}
+use Rattle.refusals.specs.Table.{Row, whole, refused, refusal, none}
 use Rattle.refusals.specs.Passed.{Passed, passed-none, passed-more, passed-in, passed-equal, passed-most, passed-records, front-given, front-passed, both}
 use Rattle.blocks.specs.Same.{same}
 use Rattle.blocks.specs.Block.{blockLength, lettersLength}
 use Rattle.blocks.specs.BlockLaws.{right-of}
-use Rattle.blocks.specs.Sheet.{faultFrom}
+use Rattle.blocks.specs.Sheet.{orLater, faultFrom}
 use Rattle.form.specs.declared.Form.{Form}
 use Rattle.form.specs.declared.Form.the-variants.{First, Second}
 use Rattle.form.specs.declared.Head.{Head}
 use Rattle.form.specs.Form.{letters, mostBlocks, flightCount, formIn, dues, headIn, contentsIn}
 use Rattle.form.specs.FormLaws.{HeadLimits, few-blocks, head-first, some-block}
 use Rattle.form.specs.Firsts.{HasBlocks}
-use Rattle.form.specs.Refusals.{lengthRight, flightsRight, headTable, headFault, openTable, contentsRefusal, laterFault, heldTable, sheetRefusal}
+use Rattle.form.specs.Refusals.{fault, lengthRight, flightsRight, headTable, headFault, openTable, contentsRefusal, laterFault, heldTable, sheetRefusal}
 
 -- ---- tables in which a row on a block's fault has that fault's own code, 0 where there is none
 
@@ -52,6 +52,15 @@ telling-fault code e = eqb-false code 0 (not-true _ e)
 -- where neither the first rows nor the last are given, none is
 passed-append : (rows more : List Row) → Passed rows → Passed more → Passed (rows ++ more)
 passed-append = every-append (λ r. r .given ≡ false)
+
+-- two rows on faults are one on the first of them
+pub fault-rows : (a b : Refusal) (rows : List Row) → refusal (fault a ∷ fault b ∷ rows) ≡ refusal (fault (orLater (a .code) (a .place) b) ∷ rows)
+unfolding refusal
+fault-rows a b rows = go (a .code)
+  where
+    go : (c : ℕ) → cond (not (eqb c 0)) (refused c (a .place)) (refusal (fault b ∷ rows)) ≡ refusal (fault (orLater c (a .place) b) ∷ rows)
+    go zero = refl
+    go (suc c) = rw (ne-eqb (suc c) 0 (λ z. omega arith))
 
 -- ---- length, head and number of blocks
 

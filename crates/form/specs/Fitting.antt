@@ -22,7 +22,7 @@ use Rattle.form.specs.FormLaws.{HeadLimits}
 use Rattle.form.specs.ContentsLaws.{ValidContents, counted-valid, limits-valid}
 
 -- n numbers below 256 to the width
-fits-each : (w n : ℕ) (xs : List ℕ) → length xs ≡ n → ((i : ℕ) → i < n → getD xs i 0 < 256 ^ w) → Fits (rep n (w ∷ [])) xs
+pub fits-each : (w n : ℕ) (xs : List ℕ) → length xs ≡ n → ((i : ℕ) → i < n → getD xs i 0 < 256 ^ w) → Fits (rep n (w ∷ [])) xs
 fits-each w zero [] l h = tt
 fits-each w zero (x ∷ xs) l h = absurd (omega arith)
 fits-each w (suc n) [] l h = absurd (omega arith)

@@ -93,6 +93,21 @@ carried First k =
     }
 carried Second k = k
 
+-- the same with another colouring
+abbrev pub coloured : Contents → List ℕ → Contents
+coloured k colouring =
+    record {
+      R = k .R;
+      S = k .S;
+      workloads = k .workloads;
+      outside = k .outside;
+      edges = k .edges;
+      counts = k .counts;
+      visits = k .visits;
+      constraints = k .constraints;
+      colouring = colouring;
+    }
+
 -- ---- the bytes of each number
 
 -- each number of the head

@@ -127,6 +127,11 @@ few-blocks Second h l =
     let visits : blocksIn (visitLayout h) ≤ 25 = omega (arith, l .flights, l .visits-few) in
     simp length-due (omega (arith, edges, counts, visits, few-regions h l .0, few-regions h l .1, few-constraints h l))
 
+-- and in either sheet no more than the second may have
+pub few-either : (f : Form) {h : Head} → HeadLimits f h → length (dues f h) ≤ mostBlocks Second
+few-either First {h} l = omega (arith, few-blocks First h l)
+few-either Second {h} l = few-blocks Second h l
+
 -- no number of a head is larger than the call's limits allow, in either sheet
 pub record Bounded (h : Head) : Type 0 where
   pub regions : h .regions ≤ mostRegions

@@ -12,3 +12,4 @@ pub mod Over
 pub mod Listed
 pub mod Turning
 pub mod Formed
+pub mod Recoloured

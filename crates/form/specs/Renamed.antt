@@ -21,7 +21,7 @@ use Rattle.blocks.specs.Mapped.{MappedFrom, onKind, mappedAll, Single, fault-ma
 use Rattle.form.specs.declared.Form.{Form}
 use Rattle.form.specs.declared.Form.the-variants.{First, Second}
 use Rattle.form.specs.declared.Head.{Head}
-use Rattle.form.specs.Form.{letters, kindCount, formIn, Contents, headOf, carried, headWidths, colouringLayout, layouts, dues, numbers, sheetOf, headFrom, headIn, contentsOf, contentsIn}
+use Rattle.form.specs.Form.{letters, kindCount, formIn, Contents, headOf, carried, coloured, headWidths, colouringLayout, layouts, dues, numbers, sheetOf, headFrom, headIn, contentsOf, contentsIn}
 use Rattle.form.specs.FormLaws.{four-letters, laid-layouts, head-first}
 use Rattle.form.specs.ContentsLaws.{valid-contents}
 use Rattle.form.specs.Fitting.{fits-numbers}
@@ -30,18 +30,7 @@ use Rattle.form.specs.RoundTrip.{length-written, head-written}
 
 -- contents in the new names
 abbrev pub renamedContents : (ℕ → ℕ) → Contents → Contents
-renamedContents p k =
-    record {
-      R = k .R;
-      S = k .S;
-      workloads = k .workloads;
-      outside = k .outside;
-      edges = k .edges;
-      counts = k .counts;
-      visits = k .visits;
-      constraints = k .constraints;
-      colouring = renamed (k .S) p (k .colouring);
-    }
+renamedContents p k = coloured k (renamed (k .S) p (k .colouring))
 
 -- of the blocks that are due by a head, those of the colouring are in the new names, and every other is the same bytes
 abbrev pub RenamedBlocks : (ℕ → ℕ) → Head → List Due → List ℕ → List ℕ → Type 0
@@ -64,7 +53,7 @@ pub table-renamed : (f : Form) (k : Contents) {p : ℕ → ℕ} → Renaming (k 
 table-renamed f k = plan-renamed (kindCount f) (k .R) (k .S) (k .workloads) (k .outside) (k .edges) (k .counts) (k .visits) (k .constraints) (k .colouring)
 
 -- so they are refused alike
-refused-renamed : (f : Form) (k : Contents) {p : ℕ → ℕ} → Renaming (k .S) p → contentsRefusal f (renamedContents p k) ≡ contentsRefusal f k
+pub refused-renamed : (f : Form) (k : Contents) {p : ℕ → ℕ} → Renaming (k .S) p → contentsRefusal f (renamedContents p k) ≡ contentsRefusal f k
 unfolding planRefusal
 refused-renamed f k names = ap refusal (table-renamed f k names)
 
@@ -103,12 +92,12 @@ module _ {a b : List ℕ} (s : SameFirst a b) where
       rw e
 
   -- and the same head
-  head-of-first : (f : Form) → headIn f b ≡ headIn f a
+  pub head-of-first : (f : Form) → headIn f b ≡ headIn f a
   unfolding headIn
   head-of-first f = ap (λ (block : List ℕ). headFrom (unpack (headWidths f) (payloadOf (total (headWidths f)) block))) (s .block)
 
   -- the rows on the length, on the head and on the number of blocks are the same
-  open-first : (f : Form) → openTable f b ≡ openTable f a
+  pub open-first : (f : Form) → openTable f b ≡ openTable f a
   unfolding openTable
   open-first f = rw (form-first, s .size, s .block, head-of-first f)
 

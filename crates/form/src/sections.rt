@@ -7,6 +7,7 @@ ghost use Rattle.blocks.specs.Section.{noDue};
 ghost use Rattle.blocks.specs.Layout.{sectionOf};
 ghost use Rattle.form.specs.Form.{headLayout, workloadLayout, outsideLayout, edgeLayout, constraintLayout, colouringLayout, countLayout, visitLayout, layouts, dues};
 ghost use Rattle.form.specs.FormLaws.{HeadLimits, mostVisitsInAll};
+ghost use Rattle.form.specs.Firsts.{colouringFirst, countFirst};
 ghost use Rattle.form.specs.Listed.{sizesIn, bytesIn};
 use crate::CONSTRAINT_BYTES;
 use crate::COUNT_BYTES;
@@ -19,6 +20,7 @@ use crate::VISIT_BYTES;
 use crate::WORKLOAD_BYTES;
 use blocks::Due;
 use blocks::Section;
+use blocks::dues::block_count;
 use blocks::dues::due_at;
 use blocks::dues::due_count;
 
@@ -34,7 +36,7 @@ const EDGE_SIZE: usize = 62 * EDGE_BYTES;
 
 const CONSTRAINT_SIZE: usize = 41 * CONSTRAINT_BYTES;
 
-const SECTOR_SIZE: usize = 500 * SECTOR_BYTES;
+pub const SECTOR_SIZE: usize = 500 * SECTOR_BYTES;
 
 const COUNT_SIZE: usize = 500 * COUNT_BYTES;
 
@@ -178,6 +180,22 @@ pub fn all_blocks(form: Form, head: Head) -> usize
     let sizes = sizes_of(form, head);
     let bytes = bytes_of(form, head);
     due_count(&KINDS, &sizes, &bytes)
+}
+
+// The first block of the visit counts, where they have any: all that are due but theirs and those of the visits come before it.
+pub fn count_first(form: Form, head: Head) -> usize
+    requires { ⌜ HeadLimits form head ⌝ }
+    ensures { λ r. ⌜ r ≡ countFirst form head ⌝ }
+{
+    all_blocks(form, head) - block_count(count_section(head)) - block_count(visit_section(head))
+}
+
+// The first block of the colouring.
+pub fn colouring_first(form: Form, head: Head) -> usize
+    requires { ⌜ HeadLimits form head ⌝ }
+    ensures { λ r. ⌜ r ≡ colouringFirst form head ⌝ }
+{
+    count_first(form, head) - block_count(colouring_section(head))
 }
 
 // What is due of a block, from 0; past the last, kind 0 and no byte.

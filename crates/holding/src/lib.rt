@@ -2,7 +2,8 @@
 ghost use mathlib.Core.Path.{_≡_};
 ghost use Prim.Native.Nat.{_≤_};
 ghost use lib.ListN.{length};
-ghost use Rattle.form.specs.Form.{formIn};
+ghost use Rattle.blocks.specs.Sheet.{faultWithin};
+ghost use Rattle.form.specs.Form.{letters, formIn, dues};
 ghost use Rattle.form.specs.Firsts.{HasBlocks};
 ghost use Rattle.form.specs.FormLaws.{Bounded};
 ghost use Rattle.form.specs.Refusals.{contentsRefusal, laterFault};
@@ -36,7 +37,7 @@ use terms::limits::MOST_VISITS;
 use terms::limits::VISIT_LENGTH;
 
 pub mod places; // places.rt: where each list stands
-mod sections; // sections.rt: the numbers of each kind of blocks, read into their places
+pub mod sections; // sections.rt: the numbers of each kind of blocks, read into their places
 
 // The numbers of the largest sheet.
 pub const MOST_HELD: usize = 3 * MOST_REGIONS as usize
@@ -45,20 +46,27 @@ pub const MOST_HELD: usize = 3 * MOST_REGIONS as usize
     + MOST_FLIGHTS as usize
     + VISIT_LENGTH * (MOST_VISITS * MOST_FLIGHTS) as usize;
 
+// The first block that is refused of those from block `from` up to block `to`.
+pub fn fault_between(form: Form, sheet: &[u8], head: Head, from: usize, to: usize) -> Refusal
+    requires { ⌜ HasBlocks form (now sheet) head × (to ≤ length (dues form head)) ⌝ }
+    ensures { λ f. ⌜ f ≡ faultWithin (letters form) (dues form head) (now (sheet .entry)) from to ⌝ }
+{
+    let letters = form.letters();
+    let sizes = sizes_of(form, head);
+    let bytes = bytes_of(form, head);
+    first_fault(sheet, &letters, &KINDS, &sizes, &bytes, from, to)
+}
+
 // The first block after the head that is refused.
 fn later_fault(form: Form, sheet: &[u8], head: Head) -> Refusal
     requires { ⌜ HasBlocks form (now sheet) head ⌝ }
     ensures { λ f. ⌜ f ≡ laterFault form head (now (sheet .entry)) ⌝ }
 {
-    let letters = form.letters();
-    let sizes = sizes_of(form, head);
-    let bytes = bytes_of(form, head);
-    let blocks = all_blocks(form, head);
-    first_fault(sheet, &letters, &KINDS, &sizes, &bytes, 1, blocks)
+    fault_between(form, sheet, head, 1, all_blocks(form, head))
 }
 
 // What is refused of the lists that are held, by the call's table.
-fn contents_refusal(form: Form, head: Head, held: &[u64]) -> Refusal
+pub fn contents_refusal(form: Form, head: Head, held: &[u64]) -> Refusal
     requires { ⌜ Bounded head × (mostHeld ≤ length (now held)) ⌝ }
     ensures { λ f. ⌜ f ≡ contentsRefusal form (contentsHeld head (now (held .entry))) ⌝ }
 {

@@ -4,9 +4,12 @@ pub mod SumLaws
 pub mod Counts
 pub mod Onto
 pub mod ListLaws
+pub mod Among
+pub mod Passing
 pub mod Places
 pub mod Parts
 pub mod Few
 pub mod Loops
 pub mod Copied
+pub mod Fronts
 pub mod Lent

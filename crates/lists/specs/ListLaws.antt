@@ -7,7 +7,7 @@ use mathlib.Core.Path.{_≡_, refl, sym, ap, _∙_}
 use mathlib.Core.List.{List, [], _∷_, _++_, map}
 use lib.ListN.{length, getD, set, drop, length-map}
 use lib.Seq.{sets, getD-drop}
-use Rattle.lists.specs.Sums.{from, listOf, Every}
+use Rattle.lists.specs.Sums.{from, upTo, listOf, Every}
 use Rattle.lists.specs.SumLaws.{length-from, from-every, every-from, every-map}
 
 drop-from : (k n j : ℕ) → j < n → drop j (from k n) ≡ (k + j) ∷ drop (suc j) (from k n)
@@ -23,6 +23,10 @@ map-ext (x ∷ xs) f g e = rw (e .0, map-ext xs f g (e .1))
 -- from index k on: k, and what follows it
 pub drop-places : (n k : ℕ) → k < n → drop k (from 0 n) ≡ k ∷ drop (suc k) (from 0 n)
 drop-places n k h = drop-from 0 n k h ∙ rw (zero-add k)
+
+-- from index k of 1, 2, .., n on: k + 1, and what follows it
+pub drop-upTo : (n k : ℕ) → k < n → drop k (upTo n) ≡ (k + 1) ∷ drop (suc k) (upTo n)
+drop-upTo n k h = let e : 1 + k ≡ k + 1 = omega arith in drop-from 1 n k h ∙ rw e
 
 module _ {A : Type 0} where
   -- a list stored in two parts, one after the other

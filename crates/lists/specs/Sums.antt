@@ -1,8 +1,8 @@
--- Sums and counts over a list, and the numbers 1..n.
+-- Sums and counts over a list, those of it that pass a test, and the numbers 1..n.
 -- Assumes nothing.
 use Prim.Native.Nat.{ℕ, zero, suc, _+_, _-_, _≤_}
 use mathlib.Core.List.{List, [], _∷_, map}
-use mathlib.Core.Bool.{Bool, true, false}
+use mathlib.Core.Bool.{Bool, true, false, cond}
 use lib.ListN.{getD}
 
 -- u is one of 1..n
@@ -41,6 +41,11 @@ module _ {A : Type 0} where
   -- how many of a list pass a test
   abbrev pub count : List A → (A → Bool) → ℕ
   count xs p = sum xs (λ x. bit (p x))
+
+  -- those of a list that pass a test, in its order
+  unfoldable pub passing : (A → Bool) → List A → List A
+  passing test [] = []
+  passing test (x ∷ xs) = cond (test x) (x ∷ passing test xs) (passing test xs)
 
   -- each of a list has P
   abbrev pub Every : (A → Type 0) → List A → Type 0

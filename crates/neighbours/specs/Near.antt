@@ -2,7 +2,6 @@
 -- Assumes nothing.
 use Prim.Native.Nat.{ℕ, zero, suc, _<_}
 use native.Mathlib.Nat.{le-of-suc-le-suc, not-suc-le-zero}
-use native.Mathlib.Omega.{arith}
 use mathlib.Core.Path.{_≡_, refl, sym}
 use mathlib.Core.List.{List, [], _∷_}
 use mathlib.Core.Logic.{inl, inr}
@@ -10,6 +9,7 @@ use mathlib.Core.Bool.{Bool, true, false, false≢true}
 use borrow.Author.Tests.{eqb-true, eq-eqb}
 use lib.Dec.{eqb}
 use lib.ListN.{length, getD}
+use Rattle.lists.specs.Among.{Among, among-first, among-later}
 use Rattle.meaning.specs.Plan.{Edge}
 use Rattle.meaning.specs.Joined.{Neighbours}
 use Rattle.neighbours.specs.Table.{when, sides, near}
@@ -34,34 +34,25 @@ near-neighbours (e ∷ es) v k q =
     k
     q
 
--- x is one of a list
-pub record Among (l : List ℕ) (x : ℕ) : Type 0 where
-  -- where it stands
-  pub index : ℕ
-  -- within the list
-  pub below : index < length l
-  -- and there it is
-  pub is : getD l index 0 ≡ x
-
--- what is put in front is one
-among-first : (t : Bool) (x : ℕ) (l : List ℕ) → t ≡ true → Among (when t x l) x
-among-first true x l h = record { index = 0; below = omega arith; is = refl }
-among-first false x l h = absurd (false≢true h)
+-- what is put in front is one of the list
+among-front : (t : Bool) (x : ℕ) (l : List ℕ) → t ≡ true → Among (when t x l) x
+among-front true x l h = among-first
+among-front false x l h = absurd (false≢true h)
 
 -- what was one still is
-among-later : {x : ℕ} (t : Bool) (y : ℕ) (l : List ℕ) → Among l x → Among (when t y l) x
-among-later true y l m = record { index = suc (m .index); below = omega arith; is = m .is }
-among-later false y l m = m
+among-behind : {x : ℕ} (t : Bool) (y : ℕ) (l : List ℕ) → Among l x → Among (when t y l) x
+among-behind true y l m = among-later m
+among-behind false y l m = m
 
 -- each neighbour of v is in the row of v
 pub neighbours-near : (edges : List Edge) (v x : ℕ) → Neighbours edges v x → Among (near edges v) x
 unfolding sides
 neighbours-near (e ∷ es) v x (inl h) =
-    rw (h .1) (among-first (eqb (e .a) v) (e .b) (when (eqb (e .b) v) (e .a) (near es v)) (eq-eqb (e .a) v (sym (h .0))))
+    rw (h .1) (among-front (eqb (e .a) v) (e .b) (when (eqb (e .b) v) (e .a) (near es v)) (eq-eqb (e .a) v (sym (h .0))))
 neighbours-near (e ∷ es) v x (inr (inl h)) =
     rw (h .1)
-    (among-later (eqb (e .a) v) (e .b) (when (eqb (e .b) v) (e .a) (near es v))
-    (among-first (eqb (e .b) v) (e .a) (near es v) (eq-eqb (e .b) v (sym (h .0)))))
+    (among-behind (eqb (e .a) v) (e .b) (when (eqb (e .b) v) (e .a) (near es v))
+    (among-front (eqb (e .b) v) (e .a) (near es v) (eq-eqb (e .b) v (sym (h .0)))))
 neighbours-near (e ∷ es) v x (inr (inr h)) =
-    among-later (eqb (e .a) v) (e .b) (when (eqb (e .b) v) (e .a) (near es v))
-    (among-later (eqb (e .b) v) (e .a) (near es v) (neighbours-near es v x h))
+    among-behind (eqb (e .a) v) (e .b) (when (eqb (e .b) v) (e .a) (near es v))
+    (among-behind (eqb (e .b) v) (e .a) (near es v) (neighbours-near es v x h))

@@ -4,8 +4,8 @@ use Prim.Native.Nat.{ℕ, _+_, _-_, _≤_}
 use native.Mathlib.Omega.{arith}
 use mathlib.Core.Path.{_≡_, refl, sym, ap, _∙_}
 use mathlib.Core.List.{List, [], _∷_, _++_, append-assoc}
-use lib.ListN.{length, take, drop, length-append}
-use lib.Seq.{length-take-le, take-at, take-take, drop-at}
+use lib.ListN.{length, take, drop, length-append, length-drop, take-append-drop}
+use lib.Seq.{length-take-le, take-at, take-take, take-add, take-append-le, drop-at, drop-drop, drop-append-le}
 use borrow.Rule.Slice.PartMut.{putMid, post-is}
 use Rattle.lists.specs.Sums.{sum}
 use Rattle.packing.specs.Part.{part, part-take}
@@ -19,9 +19,32 @@ put-part a e d xs h n =
     rw (post-is a e d h, m, append-assoc (take a d) xs (drop e d))
 
 -- what lies before stays
-take-put : (d : List ℕ) (at : ℕ) (xs : List ℕ) → at ≤ length d → take at (put d at xs) ≡ take at d
+pub take-put : (d : List ℕ) (at : ℕ) (xs : List ℕ) → at ≤ length d → take at (put d at xs) ≡ take at d
 unfolding put
 take-put d at xs h = rw (append-assoc (take at d) xs (drop (at + length xs) d)) (take-at (take at d) _ at (length-take-le at d h))
+
+-- then comes what is put down, and what lies beyond
+pub drop-put : (d : List ℕ) (at : ℕ) (xs : List ℕ) → at ≤ length d → drop at (put d at xs) ≡ xs ++ drop (at + length xs) d
+unfolding put
+drop-put d at xs h = rw (append-assoc (take at d) xs (drop (at + length xs) d)) (drop-at (take at d) _ at (length-take-le at d h))
+
+-- which stays
+pub beyond-put : (d : List ℕ) (at : ℕ) (xs : List ℕ) → at ≤ length d → drop (at + length xs) (put d at xs) ≡ drop (at + length xs) d
+beyond-put d at xs h =
+    sym (drop-drop (length xs) at (put d at xs)) ∙ ap (drop (length xs)) (drop-put d at xs h) ∙ drop-at xs (drop (at + length xs) d) (length xs) refl
+
+-- what stands there put down again changes nothing
+pub put-own : (d : List ℕ) (at n : ℕ) → at + n ≤ length d → put d at (take n (drop at d)) ≡ d
+unfolding put
+put-own d at n h =
+    let m : length (take n (drop at d)) ≡ n = length-take-le n (drop at d) (simp length-drop (omega arith)) in
+    rw (m, ← take-add at n d) (take-append-drop (at + n) d)
+
+-- what is put down in the first of two lists
+pub put-append : (d more : List ℕ) (at : ℕ) (xs : List ℕ) → at + length xs ≤ length d → put (d ++ more) at xs ≡ put d at xs ++ more
+unfolding put
+put-append d more at xs h =
+    rw (take-append-le at d more (omega arith), drop-append-le (at + length xs) d more h, append-assoc (take at d ++ xs) (drop (at + length xs) d) more)
 
 -- a list put down over one of its length
 pub put-over : (d : List ℕ) (at : ℕ) (xs ys : List ℕ) → at + length xs ≤ length d → length ys ≡ length xs → put (put d at xs) at ys ≡ put d at ys

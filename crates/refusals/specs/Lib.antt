@@ -5,3 +5,4 @@ pub mod Valid
 pub mod FewerKinds
 pub mod Plain
 pub mod Renamed
+pub mod ButEight

@@ -3,7 +3,7 @@
 use Prim.Native.Nat.{ℕ, zero, suc, _/_, _%_, _≤_, _<_}
 use native.Mathlib.Nat.{zero-add}
 use native.Mathlib.Omega.{arith}
-use mathlib.Core.Path.{_≡_, refl}
+use mathlib.Core.Path.{_≡_, refl, ap}
 use mathlib.Core.Bool.{Bool, true, false, cond, not, _&&_, true≢false}
 use mathlib.Core.List.{List, [], _∷_, _++_}
 use borrow.Author.Tests.{eqb-true, not-false}
@@ -13,6 +13,7 @@ use Rattle.lists.specs.Sums.{In, from, Every}
 use Rattle.lists.specs.SumLaws.{every-from, from-every}
 use Rattle.terms.specs.Plan.{within}
 use Rattle.scans.specs.Items.{offFrom, firstOff, records}
+use Rattle.refusals.specs.declared.Refusal.{Refusal}
 use Rattle.refusals.specs.Table.{Row, refused, none, refusal}
 use Rattle.refusals.specs.Turn.{coded, coded-first, coded-rest}
 
@@ -71,6 +72,22 @@ front-given (r ∷ rs) more n = front-first r rs more (r .given) refl (front-giv
 pub front-passed : (rows more : List Row) → Passed rows → refusal more ≡ refusal (rows ++ more)
 front-passed [] more p = refl
 front-passed (r ∷ rs) more p = rw (← first-passed r (rs ++ more) (p .0)) (front-passed rs more (p .1))
+
+-- where what comes after the same first rows refuses the same, the tables do
+pub rest-same : (rows xs ys : List Row) → refusal xs ≡ refusal ys → refusal (rows ++ xs) ≡ refusal (rows ++ ys)
+unfolding refusal
+rest-same [] xs ys e = e
+rest-same (r ∷ rs) xs ys e = ap (cond (r .given) (refused (r .code) (r .place))) (rest-same rs xs ys e)
+
+-- what holds of none, and of what each row that is given refuses, holds of what the table does
+pub refusal-each : (rows : List Row) (Q : Refusal → Type 0) → Q none → Every (λ r. r .given ≡ true → Q (refused (r .code) (r .place))) rows → Q (refusal rows)
+unfolding refusal
+refusal-each [] Q q e = q
+refusal-each (r ∷ rs) Q q e = go (r .given) refl (refusal-each rs Q q (e .1))
+  where
+    go : (b : Bool) → r .given ≡ b → Q (refusal rs) → Q (cond b (refused (r .code) (r .place)) (refusal rs))
+    go true t rest = e .0 t
+    go false t rest = rest
 
 -- ---- a test that passes
 

@@ -1,7 +1,6 @@
 -- A sheet put down where there is room for it.
 -- Assumes nothing.
 use Prim.Native.Nat.{ℕ, _*_, _≤_, _<_}
-use native.Mathlib.Omega.{arith}
 use mathlib.Core.Path.{_≡_}
 use mathlib.Core.Bool.{cond}
 use mathlib.Core.List.{List}
@@ -12,10 +11,8 @@ use Rattle.refusals.specs.Table.{refused}
 use Rattle.blocks.specs.Block.{blockLength}
 use Rattle.blocks.specs.Layout as blocks
 use Rattle.form.specs.declared.Form.{Form}
-use Rattle.form.specs.declared.Form.the-variants.{First, Second}
 use Rattle.form.specs.declared.Head.{Head}
-use Rattle.form.specs.Form.{letters, mostBlocks, layouts, dues}
-use Rattle.form.specs.FormLaws.{HeadLimits, few-blocks}
+use Rattle.form.specs.Form.{letters, layouts, dues}
 use Rattle.form.specs.Over.{over}
 use Rattle.writing.specs.declared.Written.{Written}
 use Rattle.writing.specs.Promise.{Outcome, refusedAnswer, writtenAnswer, left}
@@ -25,11 +22,6 @@ abbrev pub Puts : Form → Head → List (List ℕ) → List ℕ → Outcome →
 Puts f h nss lent o =
     let bytes = blockLength * length (dues f h) in
     o ≡ cond (leb bytes (length lent)) (left (writtenAnswer bytes) (over (blocks.sheetOf (letters f) (layouts f h) nss) lent)) (left (refusedAnswer (refused 40 0)) lent)
-
--- either sheet has at most as many blocks as the second may have
-pub few-either : (f : Form) {h : Head} → HeadLimits f h → length (dues f h) ≤ mostBlocks Second
-few-either First {h} l = omega (arith, few-blocks First h l)
-few-either Second {h} l = few-blocks Second h l
 
 module _ (f : Form) (h : Head) (nss : List (List ℕ)) (lent : List ℕ) {n : ℕ} (m : n ≡ length (dues f h)) where
   -- bytes that are too few stay as they are

@@ -13,11 +13,10 @@ use Rattle.meaning.specs.Plan.{edgeLength, visitLength, constraintLength}
 use Rattle.blocks.specs.declared.Section.{Section}
 use Rattle.blocks.specs.Block.{blockLength, lettersLength}
 use Rattle.blocks.specs.Section.{blocksOf, sectionDues}
-use Rattle.blocks.specs.SectionLaws.{length-dues, small-dues, length-due}
+use Rattle.blocks.specs.SectionLaws.{length-due}
 use Rattle.blocks.specs.Sheet.{sheetFrom}
-use Rattle.blocks.specs.SheetLaws.{length-sheet}
 use Rattle.blocks.specs.Whole.{Whole}
-use Rattle.blocks.specs.Layout.{Layout, sectionOf, allDues, blocksIn, blocksAt, writtenFrom, Laid, laid-whole, laid-count, laid-written}
+use Rattle.blocks.specs.Layout.{Layout, sectionOf, allDues, blocksIn, blocksAt, writtenFrom, Laid, laid-whole, laid-count, laid-written, length-blocks}
 use Rattle.blocks.specs.Layout as blocks
 use Rattle.form.specs.declared.Form.{Form}
 use Rattle.form.specs.declared.Form.the-variants.{First, Second}
@@ -85,13 +84,7 @@ pub data InTurn (f : Form) : ℕ → List Layout → List (List ℕ) → List �
       → sheet′ ≡ put sheet (blockLength * n) (blocksAt (letters f) l n xs) → InTurn f (n + blocksIn l) ls xss sheet′ out → InTurn f n (l ∷ ls) (xs ∷ xss) sheet out
 
 module _ (f : Form) where
-  -- a layout's blocks are as long as they are many
-  length-blocks : {l : Layout} → Laid l → (n : ℕ) (xs : List ℕ) → length (blocksAt (letters f) l n xs) ≡ blockLength * blocksIn l
-  length-blocks {l} laid n xs =
-      let s = sectionOf l in
-      length-sheet (letters f) (four-letters f) n (sectionDues s) _ (small-dues s (laid-whole laid refl .sized)) ∙ rw (length-dues (s .kind) (s .size) (blocksOf s) (s .bytes))
-
-  -- and those of all are no longer than is due
+  -- the blocks of all layouts are no longer than is due
   length-written : (n : ℕ) (ls : List Layout) (xss : List (List ℕ)) → Every Laid ls → length (writtenFrom (letters f) n ls xss) ≤ blockLength * length (allDues ls)
   length-written n [] xss laid = omega arith
   length-written n (l ∷ ls) [] laid = omega arith
@@ -99,7 +92,7 @@ module _ (f : Form) where
       omega (
         arith,
         length-append (blocksAt (letters f) l n xs) (writtenFrom (letters f) (n + blocksIn l) ls xss),
-        length-blocks (laid .0) n xs,
+        length-blocks (letters f) (four-letters f) (laid .0) n xs,
         length-written (n + blocksIn l) ls xss (laid .1),
         length-due (sectionOf l) (map sectionOf ls),
       )
@@ -111,7 +104,7 @@ module _ (f : Form) where
   put-in-turn {n} {sheet = sheet} laid (put-then {l = l} {ls} {xs} {xss} e more) room =
       let own = blocksAt (letters f) l n xs in
       let later = writtenFrom (letters f) (n + blocksIn l) ls xss in
-      let long = length-blocks (laid .0) n xs in
+      let long = length-blocks (letters f) (four-letters f) (laid .0) n xs in
       let count = length-due (sectionOf l) (map sectionOf ls) in
       let next : blockLength * (n + blocksIn l) ≡ blockLength * n + length own = omega arith in
       put-in-turn (laid .1) more (omega (arith, ap length e, length-put sheet (blockLength * n) own (omega arith)))

@@ -155,7 +155,7 @@ fn write_constraints(
 }
 
 // Puts the blocks of the colouring down.
-fn write_colouring(
+pub fn write_colouring(
     form: Form,
     sheet: &mut [u8],
     first: usize,

@@ -2,8 +2,8 @@
 use native.Mathlib.Omega.{arith}
 use borrow.Author.Tests.{not-true, not-false}
 use borrow.Author.Needs.{needs}
+use Rattle.form.specs.FormLaws.{few-either}
 use Rattle.holding.specs.HeldLaws.{holds-head, holds-bounded, holds-taken}
-use Rattle.writing.specs.Roomy.{few-either}
 use Rattle.conversion.specs.ConvertLaws.{Measured, carried-limits, measured, promise-refused, promise-short, promise-uncarried, sheet-room, promise-converted}
 use Rattle.conversion.proofs.convert.Statement.{statement}
 use Rattle.conversion.proofs.convert.Tie as tie

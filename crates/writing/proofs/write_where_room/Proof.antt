@@ -1,6 +1,7 @@
 -- The lent bytes are too few for the blocks and stay as they are, or the sheet is put down at their front.
 use native.Mathlib.Omega.{arith}
-use Rattle.writing.specs.Roomy.{few-either, puts-short, puts-enough}
+use Rattle.form.specs.FormLaws.{few-either}
+use Rattle.writing.specs.Roomy.{puts-short, puts-enough}
 use borrow.Author.Needs.{needs}
 use Rattle.writing.proofs.write_where_room.Statement.{statement}
 use Rattle.writing.proofs.write_where_room.Tie as tie
