@@ -1,0 +1,5 @@
+pub mod Mended
+pub mod Lowest
+pub mod Along
+pub mod MendedLaws
+pub mod Renamed
