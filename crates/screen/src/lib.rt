@@ -4,7 +4,7 @@ use call::Answer;
 
 pub mod by_records; // by_records.rt: the calls that take the constraints as a lent list of records
 pub mod by_sheet; // by_sheet.rt: the calls on the bytes of a sheet, each of which answers one number
-pub mod storing; // storing.rt: a sheet into lists, lists into a sheet, and one sheet into the other
+pub mod storing; // storing.rt: a sheet into lists, lists into a sheet, one sheet into the other, and a sound sheet from a damaged one
 
 // Judges a colouring of a plan, takes the moves in turn, and judges the last colouring; a call that is refused answers why and changes nothing.
 #[no_mangle]

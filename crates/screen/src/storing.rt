@@ -1,9 +1,11 @@
-// A sheet into lists, lists into a sheet, and one sheet into the other.
+// A sheet into lists, lists into a sheet, one sheet into the other, and a sound sheet from a damaged one.
 ghost use Rattle.form.specs.declared.Form.the-variants.{First, Second};
 ghost use Rattle.reading.specs.Promise as reading;
 ghost use Rattle.writing.specs.Promise as writing;
 ghost use Rattle.conversion.specs.Promise as conversion;
+ghost use Rattle.salvage.specs.Promise as salvage;
 use reading::Read;
+use salvage::Salvaged;
 use writing::Written;
 
 // Reads either sheet, by its letters, into the lent lists; a reading that is refused answers why and changes nothing.
@@ -100,4 +102,12 @@ pub extern "C" fn sctr_to_first(sheet: &[u8], converted: &mut [u8]) -> Written
     ensures { λ r. ⌜ conversion.Promise Second First (now (sheet .entry)) (now (converted .entry)) (writing.left r (now (converted .exit))) ⌝ }
 {
     conversion::to_first(sheet, converted)
+}
+
+// Writes a sound sheet in the lent bytes from one whose colouring is damaged, lists the regions whose sectors were lost, and answers how many; a salvage that is refused answers why and changes nothing.
+#[no_mangle]
+pub extern "C" fn sctr_salvage(sheet: &[u8], salvaged: &mut [u8], list: &mut [u64]) -> Salvaged
+    ensures { λ r. ⌜ salvage.Promise (now (sheet .entry)) (now (salvaged .entry)) (now (list .entry)) (salvage.left r (now (salvaged .exit)) (now (list .exit))) ⌝ }
+{
+    salvage::salvage_sheet(sheet, salvaged, list)
 }

@@ -1,0 +1,12 @@
+pub mod Surviving
+pub mod Promise
+pub mod SurvivingLaws
+pub mod Anew
+pub mod Sound
+pub mod Whole
+pub mod Same
+pub mod Renamed
+pub mod SheetA
+pub mod Keeping
+pub mod Others
+pub mod Steps
