@@ -23,7 +23,7 @@ use Rattle.demands.specs.Tables.{Due}
 use Rattle.demands.specs.Rules.{Each}
 use Rattle.demands.specs.RuleLaws.{at-most, equal, one-of, both, whole-passes, each-passes}
 use Rattle.demands.specs.Parts.{Part, wholePart, AllParts, Refused, Listed, Never, named-whole, broken-whole, listed-append, refused-listed, parts-none, none-refused, never-append, whole-due, row-refused}
-use Rattle.demands.specs.SheetRules.{BytesFit, sheetParts, SheetCodes}
+use Rattle.demands.specs.SheetRules.{BytesFit, sheetParts, NoSheetCode, SheetCodes}
 use Rattle.demands.specs.SheetNames.{sheet-range}
 use Rattle.demands.specs.SheetLaws.{sheet-refused}
 use Rattle.demands.specs.SheetCodes.{sheet-codes, never-sheet}
@@ -98,9 +98,9 @@ module _ {from to : Form} {sheet lent : List ℕ} {o : Outcome} (p : Promise fro
   told = rw as-refused (convert-refused from to sheet lent)
 
   -- what follows the sheet has 40 or 41
-  last-code : Listed (lastParts to (contentsIn from sheet) lent) (answered o) → 39 ≤ o .answer .code
-  last-code (inl m) = omega (arith, named-whole m)
-  last-code (inr (inl m)) = omega (arith, named-whole m)
+  last-code : Listed (lastParts to (contentsIn from sheet) lent) (answered o) → NoSheetCode (o .answer .code)
+  last-code (inl m) h = omega (arith, named-whole m)
+  last-code (inr (inl m)) h = omega (arith, named-whole m)
 
   -- code 0 is given exactly when all that is asked holds
   pub code-0 : o .answer .code ≡ 0 ↔ AllParts (convertParts from to sheet lent)
@@ -130,7 +130,7 @@ module _ {from to : Form} {sheet lent : List ℕ} {o : Outcome} (p : Promise fro
   codes-31-38 = sheet-codes from sheet (lastParts to (contentsIn from sheet) lent) (answered o) told last-code
 
   -- no part of the sheet gives 40 or 41
-  never-last : 39 ≤ o .answer .code → Never (sheetParts from sheet) (answered o)
+  never-last : NoSheetCode (o .answer .code) → Never (sheetParts from sheet) (answered o)
   never-last h = never-sheet from sheet (lastParts to (contentsIn from sheet) lent) (answered o) told last-code h
 
   -- code 40, no place: the sheet is not refused, and the lent bytes are too few
@@ -138,7 +138,7 @@ module _ {from to : Form} {sheet lent : List ℕ} {o : Outcome} (p : Promise fro
   code-40 =
       let k = contentsIn from sheet in
       whole-due (answered o) (sheetParts from sheet) 40 (BytesFit to (carried to k) lent) (wholePart 41 (Carries to k) ∷ []) (omega arith) told
-      (λ e. (never-last (omega arith), (λ b. omega (arith, broken-whole b), tt)))
+      (λ e. (never-last (λ _. omega arith), (λ b. omega (arith, broken-whole b), tt)))
 
   -- code 41, no place: neither is refused, and an outside area is non-zero, a flight is present, or a kind other than 1 to 4 is used
   pub code-41 : Due (answered o) 41 (AllParts (sheetParts from sheet ++ (wholePart 40 (BytesFit to (carried to (contentsIn from sheet)) lent) ∷ []))) (Carries to (contentsIn from sheet)) (λ place. place ≡ 0)
@@ -147,7 +147,7 @@ module _ {from to : Form} {sheet lent : List ℕ} {o : Outcome} (p : Promise fro
       let bytes = wholePart 40 (BytesFit to (carried to k) lent) ∷ [] in
       let carrying = wholePart 41 (Carries to k) ∷ [] in
       whole-due (answered o) (sheetParts from sheet ++ bytes) 41 (Carries to k) [] (omega arith) (subst (λ (Ps : List Part). Refused Ps (answered o)) (sym (append-assoc (sheetParts from sheet) bytes carrying)) told)
-      (λ e. (never-append (answered o) (sheetParts from sheet) bytes (never-last (omega arith)) (λ b. omega (arith, broken-whole b), tt), tt))
+      (λ e. (never-append (answered o) (sheetParts from sheet) bytes (never-last (λ _. omega arith)) (λ b. omega (arith, broken-whole b), tt), tt))
 
   -- a refused converting changes nothing, and all it answers besides code and place is 0
   pub refused-converting : o .answer .code ≢ 0 → o ≡ left (refusedAnswer (answered o)) lent

@@ -27,3 +27,6 @@ pub mod Writings
 pub mod Conversions
 pub mod Converted
 pub mod RenamedSheets
+pub mod Salvages
+pub mod Salvaged
+pub mod RenamedSalvages

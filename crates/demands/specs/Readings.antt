@@ -19,7 +19,7 @@ use Rattle.reading.specs.Handing.{Room}
 use Rattle.demands.specs.Tables.{Due}
 use Rattle.demands.specs.RuleLaws.{at-most, both, whole-passes}
 use Rattle.demands.specs.Parts.{Part, wholePart, AllParts, Refused, Listed, named-whole, listed-append, refused-listed, parts-none, none-refused, whole-due, row-refused}
-use Rattle.demands.specs.SheetRules.{sheetParts, SheetCodes}
+use Rattle.demands.specs.SheetRules.{sheetParts, NoSheetCode, SheetCodes}
 use Rattle.demands.specs.SheetNames.{sheet-range}
 use Rattle.demands.specs.SheetLaws.{sheet-refused}
 use Rattle.demands.specs.SheetCodes.{sheet-codes, never-sheet}
@@ -88,8 +88,8 @@ module _ {i : Input} {o : Outcome} (p : Promise i o) where
   told = rw as-refused (read-refused i)
 
   -- what follows the sheet has 39
-  last-code : Listed (wholePart 39 (RoomFits i) ∷ []) (answered o) → 39 ≤ o .answer .code
-  last-code (inl m) = omega (arith, named-whole m)
+  last-code : Listed (wholePart 39 (RoomFits i) ∷ []) (answered o) → NoSheetCode (o .answer .code)
+  last-code (inl m) h = omega (arith, named-whole m)
 
   -- code 0 is given exactly when all that is asked holds
   pub code-0 : o .answer .code ≡ 0 ↔ AllParts (readParts i)
@@ -126,7 +126,7 @@ module _ {i : Input} {o : Outcome} (p : Promise i o) where
   code-39 =
       let f = formIn (i .sheet) in
       whole-due (answered o) (sheetParts f (i .sheet)) 39 (RoomFits i) [] (omega arith) told
-      (λ e. (never-sheet f (i .sheet) (wholePart 39 (RoomFits i) ∷ []) (answered o) told last-code (omega arith), tt))
+      (λ e. (never-sheet f (i .sheet) (wholePart 39 (RoomFits i) ∷ []) (answered o) told last-code (λ _. omega arith), tt))
 
   -- a refused reading changes nothing, and all it answers besides code and place is 0
   pub refused-reading : o .answer .code ≢ 0 → o ≡ refusedBy i (answered o)

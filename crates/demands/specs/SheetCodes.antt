@@ -16,7 +16,7 @@ use Rattle.form.specs.Form.{headIn, contentsIn}
 use Rattle.demands.specs.Tables.{All, before, ruleOf, absent, once, Among, Due, told-code, among-absent}
 use Rattle.demands.specs.Rules.{CountsFit, VisitsFit}
 use Rattle.demands.specs.Parts.{Part, AllParts, Broken, Refused, Listed, DueAt, Never, broken-named, broken-37, broken-whole, never-listed, never-append, never-none, never-first, never-later, all-first, rule-breaks, part-due, whole-due}
-use Rattle.demands.specs.SheetRules.{LengthFits, rulesAt, HeadFlightsFit, headRules, BlocksFit, asGiven, contentsRules, lengthPart, blockPart, numbersPart, countPart, laterParts, laterCount, contentsPart, openParts, blocksParts, sheetParts, BeforeBlock, BeforeNumbers, BeforeCount, BeforeContents, SheetCodes}
+use Rattle.demands.specs.SheetRules.{LengthFits, rulesAt, HeadFlightsFit, headRules, BlocksFit, asGiven, contentsRules, lengthPart, blockPart, numbersPart, countPart, laterParts, laterCount, contentsPart, openParts, blocksParts, sheetParts, BeforeBlock, BeforeNumbers, BeforeCount, BeforeContents, NoSheetCode, SheetCodes}
 use Rattle.demands.specs.SheetNames.{named-block}
 
 -- parts by number, up to one of them, that one, and those after it
@@ -24,7 +24,7 @@ parts-at : (P : ℕ → Part) (k a b : ℕ) → map P (from k (a + suc b)) ≡ m
 parts-at P k zero b = rw (zero-add (suc b), add-zero k)
 parts-at P k (suc a) b = rw (suc-add a (suc b), add-suc k a, ← suc-add k a) (ap (λ (Ps : List Part). P k ∷ Ps) (parts-at P (suc k) a b))
 
-module _ (f : Form) (sheet : List ℕ) (Ms : List Part) (r : Refusal) (told : Refused (sheetParts f sheet ++ Ms) r) (last : Listed Ms r → 39 ≤ r .code) where
+module _ (f : Form) (sheet : List ℕ) (Ms : List Part) (r : Refusal) (told : Refused (sheetParts f sheet ++ Ms) r) (last : Listed Ms r → NoSheetCode (r .code)) where
   -- the parts after the number of blocks
   abbrev restParts : List Part
   restParts = laterParts f sheet (laterCount f sheet) ++ (contentsPart f sheet ∷ Ms)
@@ -52,13 +52,13 @@ module _ (f : Form) (sheet : List ℕ) (Ms : List Part) (r : Refusal) (told : Re
   never-blocks k zero h = tt
   never-blocks k (suc n) h = (h k (omega arith) (omega arith), never-blocks (suc k) n (λ m lo hi. h m (omega arith) (omega arith)))
 
-  -- nor is what follows the sheet, below 39
-  never-last : r .code < 39 → Never Ms r
-  never-last l = never-listed r Ms (λ m. omega (arith, last m))
+  -- nor is what follows the sheet, with one of 31 to 38
+  never-last : 31 ≤ r .code → r .code < 39 → Never Ms r
+  never-last h l = never-listed r Ms (λ m. omega (arith, last m h))
 
   -- nor is any of those after the number of blocks
-  never-rest : ((m : ℕ) → 1 ≤ m → m < 1 + laterCount f sheet → Broken (blockPart f sheet m) r → ⊥) → (Broken (contentsPart f sheet) r → ⊥) → r .code < 39 → Never restParts r
-  never-rest later contents l = never-append r (laterParts f sheet (laterCount f sheet)) (contentsPart f sheet ∷ Ms) (never-blocks 1 (laterCount f sheet) later) (contents, never-last l)
+  never-rest : ((m : ℕ) → 1 ≤ m → m < 1 + laterCount f sheet → Broken (blockPart f sheet m) r → ⊥) → (Broken (contentsPart f sheet) r → ⊥) → 31 ≤ r .code → r .code < 39 → Never restParts r
+  never-rest later contents h l = never-append r (laterParts f sheet (laterCount f sheet)) (contentsPart f sheet ∷ Ms) (never-blocks 1 (laterCount f sheet) later) (contents, never-last h l)
 
   -- ---- the codes
 
@@ -68,7 +68,7 @@ module _ (f : Form) (sheet : List ℕ) (Ms : List Part) (r : Refusal) (told : Re
       whole-due r [] 31 (LengthFits sheet) (blockPart f sheet 0 ∷ numbersPart f sheet ∷ countPart f sheet ∷ restParts) (omega arith) t
       (λ e.
       let later : (m : ℕ) → Broken (blockPart f sheet m) r → ⊥ = λ m b. omega (arith, on-block m b .1 .0) in
-      (tt, (later 0, (λ b. omega (arith, on-numbers b .0), (λ b. omega (arith, broken-whole b), never-rest (λ m lo hi. later m) (λ b. omega (arith, on-contents b .0)) (omega arith))))))
+      (tt, (later 0, (λ b. omega (arith, on-numbers b .0), (λ b. omega (arith, broken-whole b), never-rest (λ m lo hi. later m) (λ b. omega (arith, on-contents b .0)) (omega arith) (omega arith))))))
 
   -- the number of blocks
   due-38 : Due r 38 (BeforeCount f sheet) (BlocksFit f sheet) (λ place. place ≡ 0)
@@ -76,7 +76,7 @@ module _ (f : Form) (sheet : List ℕ) (Ms : List Part) (r : Refusal) (told : Re
       whole-due r (lengthPart sheet ∷ blockPart f sheet 0 ∷ numbersPart f sheet ∷ []) 38 (BlocksFit f sheet) restParts (omega arith) t
       (λ e.
       let later : (m : ℕ) → Broken (blockPart f sheet m) r → ⊥ = λ m b. omega (arith, on-block m b .1 .1) in
-      ((λ b. omega (arith, broken-whole b), (later 0, (λ b. omega (arith, on-numbers b .0), tt))), never-rest (λ m lo hi. later m) (λ b. omega (arith, on-contents b .0)) (omega arith)))
+      ((λ b. omega (arith, broken-whole b), (later 0, (λ b. omega (arith, on-numbers b .0), tt))), never-rest (λ m lo hi. later m) (λ b. omega (arith, on-contents b .0)) (omega arith) (omega arith)))
 
   -- a number of the head that only it names
   due-number : (p : ℕ) → p ≢ 0 → T (once p (headRules f (headIn f sheet))) → T (absent p (contentsRules f (contentsIn f sheet)))
@@ -87,7 +87,7 @@ module _ (f : Form) (sheet : List ℕ) (Ms : List Part) (r : Refusal) (told : Re
       (λ code place.
       let later : (m : ℕ) → Broken (blockPart f sheet m) r → ⊥ = λ m b. omega (arith, on-block m b .1 .1) in
       let contents : Broken (contentsPart f sheet) r → ⊥ = λ b. among-absent p (contentsRules f (contentsIn f sheet)) a (rw place at (on-contents b .1)) in
-      ((λ b. omega (arith, broken-whole b), (later 0, tt)), (λ b. omega (arith, broken-whole b), never-rest (λ m lo hi. later m) contents (omega arith))))
+      ((λ b. omega (arith, broken-whole b), (later 0, tt)), (λ b. omega (arith, broken-whole b), never-rest (λ m lo hi. later m) contents (omega arith) (omega arith))))
 
   -- what is held, for a code that only it names
   due-contents : (p : ℕ) → p ≢ 0 → T (once p (contentsRules f (contentsIn f sheet))) → T (absent p (headRules f (headIn f sheet)))
@@ -98,7 +98,7 @@ module _ (f : Form) (sheet : List ℕ) (Ms : List Part) (r : Refusal) (told : Re
       (λ code place.
       let later : (m : ℕ) → Broken (blockPart f sheet m) r → ⊥ = λ m b. omega (arith, on-block m b .1 .1) in
       let numbers : Broken (numbersPart f sheet) r → ⊥ = λ b. among-absent p (headRules f (headIn f sheet)) a (rw place at (on-numbers b .1)) in
-      ((λ b. omega (arith, broken-whole b), (later 0, (numbers, (λ b. omega (arith, broken-whole b), never-blocks 1 (laterCount f sheet) (λ m lo hi. later m))))), never-last (omega arith)))
+      ((λ b. omega (arith, broken-whole b), (later 0, (numbers, (λ b. omega (arith, broken-whole b), never-blocks 1 (laterCount f sheet) (λ m lo hi. later m))))), never-last (omega arith) (omega arith)))
 
   module _ (c : ℕ) (low : 32 ≤ c) (high : c ≤ 36) where
     -- the parts after block n + 1
@@ -125,7 +125,7 @@ module _ (f : Form) (sheet : List ℕ) (Ms : List Part) (r : Refusal) (told : Re
       -- nor after it
       never-after : (k m : ℕ) → suc n < k → Never (map (blockPart f sheet) (from k m) ++ (contentsPart f sheet ∷ Ms)) r
       never-after k m h =
-          never-append r (map (blockPart f sheet) (from k m)) (contentsPart f sheet ∷ Ms) (never-blocks k m (λ j lo hi b. omega (arith, on-block j b .0))) (λ b. omega (arith, on-contents b .0), never-last (omega arith))
+          never-append r (map (blockPart f sheet) (from k m)) (contentsPart f sheet ∷ Ms) (never-blocks k m (λ j lo hi b. omega (arith, on-block j b .0))) (λ b. omega (arith, on-contents b .0), never-last (omega arith) (omega arith))
 
       -- a later block that is refused is one of those due
       due-later : n < laterCount f sheet
@@ -134,7 +134,7 @@ module _ (f : Form) (sheet : List ℕ) (Ms : List Part) (r : Refusal) (told : Re
           go : Dec (n < laterCount f sheet) → n < laterCount f sheet
           go (yes l) = l
           go (no m) =
-              let rest = never-rest (λ j lo hi b. m (omega (arith, on-block j b .0))) (λ b. omega (arith, on-contents b .0)) (omega arith) in
+              let rest = never-rest (λ j lo hi b. m (omega (arith, on-block j b .0))) (λ b. omega (arith, on-contents b .0)) (omega arith) (omega arith) in
               let z = ap (λ (x : Refusal). x .code) (never-none (openParts f sheet ++ restParts) (never-append r (openParts f sheet) restParts never-open rest) t) in
               absurd (omega arith)
 
@@ -155,7 +155,7 @@ module _ (f : Form) (sheet : List ℕ) (Ms : List Part) (r : Refusal) (told : Re
         (λ d e. ap (λ (x : Refusal). x .code) e)
         (λ code place. (
           (λ b. omega (arith, broken-whole b), tt),
-          (λ b. omega (arith, on-numbers b .0), (λ b. omega (arith, broken-whole b), never-rest (λ m lo hi b. omega (arith, on-block m b .0)) (λ b. omega (arith, on-contents b .0)) (omega arith))),
+          (λ b. omega (arith, on-numbers b .0), (λ b. omega (arith, broken-whole b), never-rest (λ m lo hi b. omega (arith, on-block m b .0)) (λ b. omega (arith, on-contents b .0)) (omega arith) (omega arith))),
         ))
     due-block (suc n) o = (
       λ e. let l = due-later n (ap (λ (x : Refusal). x .code) e) (ap (λ (x : Refusal). x .place) e) in let q = there n o l .0 e in (((l, q .0 .0), q .0 .1), q .1),
@@ -173,7 +173,7 @@ module _ (f : Form) (sheet : List ℕ) (Ms : List Part) (r : Refusal) (told : Re
           → (BeforeNumbers f sheet × Broken (numbersPart f sheet) r) ⊎ (BeforeContents f sheet × Broken (contentsPart f sheet) r)
       go later count code (long, (head, _)) (inl (numbers, u)) =
           let q = never-first r (countPart f sheet ∷ laterParts f sheet (laterCount f sheet)) (contentsPart f sheet ∷ Ms) (count, never-blocks 1 (laterCount f sheet) (λ m lo hi. later m)) u in
-          inr ((long, (head, (numbers, q .0))), never-later (contentsPart f sheet) Ms (never-last (omega arith)) (λ z. omega arith) (q .1))
+          inr ((long, (head, (numbers, q .0))), never-later (contentsPart f sheet) Ms (never-last (omega arith) (omega arith)) (λ z. omega arith) (q .1))
       go later count code reached (inr b) = inl (reached, b)
 
   -- its places are those of their rules
@@ -196,13 +196,22 @@ module _ (f : Form) (sheet : List ℕ) (Ms : List Part) (r : Refusal) (told : Re
         (λ q. rule-breaks (contentsPart f sheet) Ms 13 (omega arith) tt (q .0 .1, q .1) (all-first r (blocksParts f sheet) (contentsPart f sheet ∷ Ms) (q .0 .0) t)),
   )
 
-  -- no part of a sheet gives a code from 39 on
-  pub never-sheet : 39 ≤ r .code → Never (sheetParts f sheet) r
-  never-sheet h =
-      let later : (m : ℕ) → Broken (blockPart f sheet m) r → ⊥ = λ m b. omega (arith, on-block m b .1 .1) in
-      never-append r (blocksParts f sheet) (contentsPart f sheet ∷ [])
-      (λ b. omega (arith, broken-whole b), (later 0, (λ b. omega (arith, on-numbers b .0), (λ b. omega (arith, broken-whole b), never-blocks 1 (laterCount f sheet) (λ m lo hi. later m)))))
-      (λ b. omega (arith, on-contents b .0), tt)
+  -- no part of a sheet gives another code
+  pub never-sheet : NoSheetCode (r .code) → Never (sheetParts f sheet) r
+  never-sheet other =
+      let off : 31 ≤ r .code → r .code ≤ 38 → ⊥ = λ l h. omega (arith, other l) in
+      let later : (m : ℕ) → Broken (blockPart f sheet m) r → ⊥ = λ m b. off (omega (arith, on-block m b .1 .0)) (omega (arith, on-block m b .1 .1)) in
+      never-append r (blocksParts f sheet) (contentsPart f sheet ∷ []) (
+        λ b. let e = broken-whole b in off (omega arith) (omega arith),
+        (
+          later 0,
+          (
+            λ b. let e = on-numbers b .0 in off (omega arith) (omega arith),
+            (λ b. let e = broken-whole b in off (omega arith) (omega arith), never-blocks 1 (laterCount f sheet) (λ m lo hi. later m)),
+          ),
+        ),
+      )
+      (λ b. let e = on-contents b .0 in off (omega arith) (omega arith), tt)
 
   -- all codes of a sheet
   pub sheet-codes : SheetCodes f sheet r

@@ -1,6 +1,6 @@
 -- What a sheet is refused for is what its parts are: the tests and the rows on a sheet say what the rules say.
 -- Assumes nothing.
-use Prim.Native.Nat.{ℕ, zero, suc, _+_, _*_, _/_, _%_}
+use Prim.Native.Nat.{ℕ, suc, _*_, _/_, _%_}
 use native.Mathlib.Nat.{add-zero}
 use native.Mathlib.Numerals.{add-one}
 use native.Mathlib.Omega.{arith}
@@ -16,20 +16,21 @@ use Rattle.lists.specs.Sums.{from}
 use Rattle.packing.specs.Numbers.{total}
 use Rattle.terms.specs.Plan.{within}
 use Rattle.meaning.specs.Plan.{mostRegions, mostSectors, mostEdges, mostConstraints, mostVisits}
-use Rattle.refusals.specs.declared.Refusal.{Refusal}
 use Rattle.refusals.specs.Table.{Row, refused, whole, item, refusal, planTable, planRefusal}
 use Rattle.refusals.specs.Turn.{coded, coded-first, coded-rest}
 use Rattle.blocks.specs.declared.Due.{Due}
 use Rattle.blocks.specs.Same.{same, same-eq, eq-same}
 use Rattle.blocks.specs.Block.{blockLength, firstWrong, wrong}
 use Rattle.blocks.specs.Section.{due, noDue}
-use Rattle.blocks.specs.Sheet.{blockAt, orLater, faultFrom}
+use Rattle.blocks.specs.Sheet.{blockAt, faultFrom}
+use Rattle.blocks.specs.SheetLaws.{after-block}
 use Rattle.form.specs.declared.Form.{Form}
 use Rattle.form.specs.declared.Head.{Head}
 use Rattle.form.specs.Form.{letters, mostBlocks, flightCount, kindCount, formIn, headWidths, dues, Contents, headIn, contentsIn}
 use Rattle.form.specs.FormLaws.{head-first}
 use Rattle.form.specs.ContentsLaws.{Counted, counted-in}
 use Rattle.form.specs.Refusals.{fault, lengthRight, flightsRight, headTable, headFault, openTable, contentsRefusal, laterFault, heldTable}
+use Rattle.form.specs.Accepted.{fault-rows}
 use Rattle.demands.specs.Tables.{Rule, _asks_, All, Told, rows-told}
 use Rattle.demands.specs.Rules.{planRules, RegionsFit, SectorsFit, EdgeCountFits, ConstraintCountFits}
 use Rattle.demands.specs.RuleLaws.{at-most, equal, one-of, both, whole-passes, alone, _then_}
@@ -59,15 +60,9 @@ alike : (xs ys : List ℕ) → same xs ys ≡ true ↔ xs ≡ ys
 alike xs ys = (same-eq xs ys, eq-same)
 
 -- what is wrong with a block is what its rules give
-wrong-told : (letters : List ℕ) (n : ℕ) (d : Due) (block : List ℕ) → Told (blockRules letters n d block) (wrong letters (d .kind) n (d .used) block)
+pub wrong-told : (letters : List ℕ) (n : ℕ) (d : Due) (block : List ℕ) → Told (blockRules letters n d block) (wrong letters (d .kind) n (d .used) block)
 unfolding wrong
 wrong-told letters n d block = first-told _ _ _ _ _ (alike _ _) (alike _ _) (both (alike _ _) (alike _ _)) (alike _ _) (both (alike _ _) (alike _ _))
-
--- a fault, or else a later one, are two rows
-two-faults : (w n : ℕ) (later : Refusal) (rest : List Row) → refusal (fault (refused w n) ∷ fault later ∷ rest) ≡ refusal (fault (orLater w n later) ∷ rest)
-unfolding refusal
-two-faults zero n later rest = refl
-two-faults (suc w) n later rest = rw (ne-eqb (suc w) 0 (λ e. omega arith))
 
 module _ (f : Form) (sheet : List ℕ) where
   -- the first of the blocks from n on that is refused, and what follows where none is
@@ -80,10 +75,9 @@ module _ (f : Form) (sheet : List ℕ) where
       let all = dues f (headIn f sheet) in
       let own : d ≡ getD all n noDue = ap (λ (l : List Due). getD l 0 noDue) e ∙ getD-drop n all 0 noDue ∙ rw (add-zero n) in
       let others : ds ≡ drop (suc n) all = ap (λ (l : List Due). drop 1 l) e ∙ drop-drop 1 n all ∙ ap (λ (k : ℕ). drop k all) (add-one n) in
-      let far : drop blockLength (drop (blockLength * n) sheet) ≡ drop (blockLength * suc n) sheet = drop-drop blockLength (blockLength * n) sheet ∙ ap (λ (k : ℕ). drop k sheet) (let m : blockLength * n + blockLength ≡ blockLength * suc n = omega arith in m) in
       let w = wrong (letters f) (d .kind) n (d .used) (blockAt sheet n) in
       let later = faultFrom (letters f) (suc n) ds (drop (blockLength * suc n) sheet) in
-      rw (far, ← two-faults w n later rest)
+      rw (after-block n sheet, ← fault-rows (refused w n) later rest)
       (part-refused (blockPart f sheet n) w (fault later ∷ rest) (map (blockPart f sheet) (from (suc n) (length ds)) ++ Qs) tt (λ z. z) (rw (← own) (wrong-told (letters f) n d (blockAt sheet n)))
       (λ a. later-refused (suc n) ds others rest Qs (λ b. next (a, b))))
 

@@ -177,6 +177,10 @@ BeforeContents f sheet = AllParts (blocksParts f sheet)
 
 -- ---- when each code is given
 
+-- a code that no part of a sheet has: none of 31 to 38
+abbrev pub NoSheetCode : ℕ → Type 0
+NoSheetCode code = 31 ≤ code → 39 ≤ code
+
 -- codes 31 to 38 of a sheet of a form: each is given exactly when all that is checked before it holds and its own rule does not
 pub record SheetCodes (f : Form) (sheet : List ℕ) (given : Refusal) : Type 0 where
   -- 31, no place: length zero, not a multiple of 512 or over so many blocks
