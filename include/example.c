@@ -101,6 +101,27 @@ static void print_verdicts(const uint8_t *sheet, size_t bytes) {
     printf("total %lu\n", (unsigned long)sctr_total(sheet, bytes));
 }
 
+/* The bytes of the sheet, damaged in its colouring's only block: each region is lost, and is in sector 1 now. */
+static void hold_salvage(uint8_t *sheet, size_t bytes) {
+    static const uint64_t due[REGIONS] = {1, 2, 3, 4, 5};
+    static uint8_t salvaged[SCTR_MOST_SECOND_BYTES];
+    uint64_t list[SCTR_MOST_REGIONS];
+    sctr_salvage_answer answer;
+
+    answer = sctr_salvage(sheet, bytes, salvaged, LENGTH(salvaged), NULL, 0);
+    hold_number("lost regions of a sound sheet", answer.lost, 0);
+    hold("salvaged sheet", salvaged, sheet, bytes);
+    sheet[4 * SCTR_BLOCK_BYTES + 10] = 9;
+    answer = sctr_salvage(sheet, bytes, salvaged, LENGTH(salvaged), list, LENGTH(list));
+    hold_number("code of the salvage", answer.code, 0);
+    hold_number("lost regions", answer.lost, REGIONS);
+    hold("list of lost regions", list, due, sizeof due);
+    hold_number("code of the damaged sheet", sctr_code(sheet, bytes), 33);
+    hold_number("total of the salvaged sheet", sctr_total(salvaged, bytes), 555);
+    hold_number("code without a list", sctr_salvage(sheet, bytes, salvaged, LENGTH(salvaged), NULL, 0).code, 17);
+    sheet[4 * SCTR_BLOCK_BYTES + 10] = 1;
+}
+
 /* The bytes of the sheet: asked, read, written again, converted and converted back; then damaged. */
 static void hold_sheet(uint8_t *sheet, size_t bytes) {
     static const uint64_t due[] = {0, 0, 0, 0, 5, 0}; /* violations of the places 0 to 5; there are no constraints 0 and 5 */
@@ -177,6 +198,7 @@ int main(int count, char **arguments) {
     hold_one_region(SCTR_MOST_WORKLOAD, 0, 0, 63);
     hold_one_region(SCTR_MOST_WORKLOAD + 1, 3, 1, 0);
     print_verdicts(sheet, bytes);
+    hold_salvage(sheet, bytes);
     hold_sheet(sheet, bytes);
     printf("%d differences from document 01\n", differences);
     return differences != 0;

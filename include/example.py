@@ -19,6 +19,7 @@ def record(*names):
 CallAnswer = record("code", "place", "first", "last")
 ReadAnswer = record("code", "place", "regions", "sectors", "edges", "constraints", "flights", "visits")
 WriteAnswer = record("code", "place", "bytes")
+SalvageAnswer = record("code", "place", "lost")
 Constraint = record("kind", "relation", "limit", "weight")
 
 # The lists that are written to a first sheet, and to a second.
@@ -130,6 +131,7 @@ for address in [None, 1]:
     assert [ask("sctr_read", ReadAnswer, some, *no_lists).code for some in [stored, nothing]] == [39, 31]
     assert [ask("sctr_to_second", WriteAnswer, some, nothing).code for some in [stored, nothing]] == [40, 31]
     assert ask("sctr_to_first", WriteAnswer, nothing, room).code == 31
+    assert [ask("sctr_salvage", SalvageAnswer, some, nothing, no_lists[0]).code for some in [stored, nothing]] == [40, 31]
     assert [ask(f"sctr_{name}", c_uint64, nothing) for name in ["code", "place", "total", "constraints"]] == [31, 0, 0, 0]
     assert [ask(f"sctr_{name}", c_uint64, nothing, 1) for name in ["holds", "violation"]] == [0, 0]
 
@@ -155,3 +157,13 @@ read = [List([9] * length) for length in [5, 5, 12, 0, 0, 16, 5]]
 answer = ask("sctr_read", ReadAnswer, second, *read)
 assert [answer.code, answer.regions, answer.sectors, answer.edges, answer.constraints, answer.flights] == [0, 5, 2, 4, 4, 0]
 assert all(found == list(getattr(plan, name).items) for found, name in zip(read, SECOND))
+
+# A byte of the colouring's only block is damaged: each region is lost, and is in sector 1 now.
+spoiled = List(sheet[: 4 * 512 + 10] + b"\x09" + sheet[4 * 512 + 11 :], c_uint8)
+salvaged, lost = List([0] * len(sheet), c_uint8), List([9] * 6)
+assert ask("sctr_salvage", SalvageAnswer, spoiled, salvaged, List.empty_at(None)).code == 17
+assert ask("sctr_salvage", SalvageAnswer, spoiled, salvaged, lost).lost == 5
+assert lost == [1, 2, 3, 4, 5, 9]
+assert [ask("sctr_code", c_uint64, some) for some in [spoiled, salvaged]] == [33, 0]
+assert ask("sctr_salvage", SalvageAnswer, stored, salvaged, List([])).lost == 0
+assert bytes(salvaged.items) == sheet

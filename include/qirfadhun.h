@@ -28,6 +28,7 @@
  *
  *     200 KiB    sctr_call, sctr_call_records
  *      96 KiB    sctr_read, sctr_to_second, sctr_to_first
+ *     104 KiB    sctr_salvage
  *       4 KiB    sctr_write, sctr_write_records, sctr_write_second
  *     300 KiB    sctr_code, sctr_place, sctr_total, sctr_constraints, sctr_holds, sctr_violation
  *
@@ -137,6 +138,13 @@ typedef struct sctr_write_answer {
     uint64_t place;
     uint64_t bytes;
 } sctr_write_answer;
+
+/* What salvaging a sheet answers: how many regions are lost. */
+typedef struct sctr_salvage_answer {
+    uint64_t code;
+    uint64_t place;
+    uint64_t lost;
+} sctr_salvage_answer;
 
 /*
  * Judges a colouring of a plan, takes the moves in turn, and judges the last colouring.
@@ -253,6 +261,24 @@ sctr_write_answer sctr_to_second(const uint8_t *sheet, size_t sheet_len, uint8_t
 /* Converts a second sheet back into a first one. A first sheet is refused by code 32, and by code 41 a plan that a first sheet
  * can't carry. */
 sctr_write_answer sctr_to_first(const uint8_t *sheet, size_t sheet_len, uint8_t *converted, size_t converted_len);
+
+/*
+ * Writes a sound sheet from either sheet, where no block but the colouring's is refused, and lists the regions that are lost: those
+ * whose block fails by any of 32 to 36, or whose sector is not in 1..S. Each is given the sector of its lowest-numbered neighbour, by
+ * the edges, whose sector survived, or sector 1 where there is none: a guess, not what was drawn. sctr_read of the salvaged sheet
+ * says which. Nothing else changes, and a sheet that sctr_read takes comes out byte for byte.
+ *
+ * Written, at least as long as said. What lies beyond stays as it was:
+ *     salvaged    as many bytes as the sheet has, else it is refused by code 40
+ *     list        one number a lost region, in increasing order, else it is refused by code 17, and how many there are is not
+ *                 answered. SCTR_MOST_REGIONS are always enough
+ *
+ * Any other fault of the sheet is refused as sctr_read refuses it.
+ */
+sctr_salvage_answer sctr_salvage(
+    const uint8_t *sheet, size_t sheet_len,
+    uint8_t *salvaged, size_t salvaged_len,
+    uint64_t *list, size_t list_len);
 
 /*
  * The calls on the bytes of either sheet, each of which answers one number. Each reads and judges the sheet anew; to ask for all

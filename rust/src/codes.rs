@@ -16,7 +16,8 @@ pub struct Listed {
     pub remedy: &'static str,
 }
 
-/// The codes in the order in which they are checked: of a plan and a call on it, of a move, of a sheet.
+/// The codes in the order in which they are checked: of a plan and a call on it, of a move, of a sheet, of writing and converting
+/// one, of salvaging one.
 pub const LISTED: &[Listed] = &[
     Listed {
         code: 1,
@@ -230,7 +231,7 @@ pub const LISTED: &[Listed] = &[
             "a number of the head, or of what the blocks hold, is refused by the table of the call on a plan; in a first sheet \
                 also kind 5, by 7; in a second also, by 13, a head with fewer visits than flights or more than 32 times as many, \
                 and visit counts that don't add up to the head's number of visits",
-        meaning: "the sheet came over whole, but the plan in it is refused",
+        meaning: "the plan in the sheet is refused as it was written",
         remedy: "look that code up under a call on a plan",
     },
     Listed {
@@ -252,7 +253,8 @@ pub const LISTED: &[Listed] = &[
         place: None,
         given: "the lent bytes are fewer than the sheet has",
         meaning: "too little memory was lent",
-        remedy: "lend 43 blocks of 512 bytes for a first sheet, 74 for a second: enough for every one",
+        remedy: "lend 43 blocks of 512 bytes for a first sheet, 74 for a second: enough for every one; in salvaging, as many \
+                 bytes as the damaged sheet has",
     },
     Listed {
         code: 41,
@@ -260,5 +262,12 @@ pub const LISTED: &[Listed] = &[
         given: "an outside area is not zero, a flight is there, or a constraint has a kind other than 1 to 4",
         meaning: "a first sheet can't carry this plan",
         remedy: "send the second sheet, or take out what the first can't carry",
+    },
+    Listed {
+        code: 17,
+        place: None,
+        given: "the room for the list is less than one number a lost region",
+        meaning: "too little memory was lent",
+        remedy: "lend one number a region: 512 are enough for every sheet",
     },
 ];

@@ -17,10 +17,11 @@
 //!
 //! No call has a premise: whatever is handed over, as long as memory has room for it, it ends, without a panic, and answers either what was asked for or a
 //! [`Refusal`], after which nothing is changed. Totals, deltas, violations, labels, components and workloads are those of the
-//! proved calls. What a reason says is read off them and off the plan, and its parts are held to the proved violation.
+//! proved calls. What a reason says is read off them and off the plan, and its parts are held to the proved violation. Likewise the
+//! neighbour that a lost region is said to go with is held to the sector that it is proved to be given.
 //!
-//! Not proved, but measured on the largest plans: judging and moves take up to 200 KiB of the stack, reading and converting 96,
-//! writing 4, and a question to [`lists::Sheet`] 300. A thread with 512 KiB has room for every call.
+//! Not proved, but measured on the largest plans: judging and moves take up to 200 KiB of the stack, salvaging 104, reading and
+//! converting 96, writing 4, and a question to [`lists::Sheet`] 300. A thread with 512 KiB has room for every call.
 //!
 //! A search proposes changes in lists, and the board answers with the difference that each would make to the total, or with a
 //! [`Row`] for each [`Move`]:
@@ -35,6 +36,20 @@
 //! let before = board.total() as i64;
 //! board.make(best)?;
 //! assert_eq!(board.total() as i64, before + delta);
+//! # Ok::<(), Box<dyn std::error::Error>>(())
+//! ```
+//!
+//! A sheet that comes back spoiled is refused. Where that is for its colouring alone, [`salvage`](fn@salvage) makes a sound sheet of
+//! it, and names each region that lost its sector, with what it was given and why:
+//!
+//! ```
+//! let mut spoiled = std::fs::read("../sheets/grid-512.sheet")?;
+//! *spoiled.last_mut().unwrap() ^= 1; // in the last block of the colouring, which has the regions from 501 on
+//! let salvage = qirfadhun::salvage(&spoiled)?;
+//! for lost in salvage.lost()? {
+//!     println!("{lost}"); // Region 501 is in sector 9 now, as region 50 is, its lowest-numbered neighbour whose sector survived.
+//! }
+//! assert_eq!(salvage.lost()?.len(), 12);
 //! # Ok::<(), Box<dyn std::error::Error>>(())
 //! ```
 //!
@@ -64,6 +79,7 @@ mod plan;
 mod reason;
 mod refusal;
 mod relation;
+mod salvage;
 mod sectors;
 mod stretches;
 mod verdict;
@@ -80,6 +96,7 @@ pub use plan::{Edge, Plan};
 pub use reason::{Cause, Reason, Unexplained};
 pub use refusal::Refusal;
 pub use relation::{Relation, Side};
+pub use salvage::{salvage, Lost, Salvage, Untraced};
 pub use sectors::{Component, SectorFigures};
 pub use stretches::Stretch;
 pub use verdict::Verdict;

@@ -78,7 +78,8 @@ impl Plan {
     ///
     /// # Errors
     ///
-    /// 31 to 38: this is no sheet, it is damaged, or the plan in it is refused.
+    /// 31 to 38: this is no sheet, it is damaged, or the plan in it is refused. Where that is for the colouring alone,
+    /// [`salvage`](fn@crate::salvage) makes a sound sheet of it.
     pub fn read(sheet: &[u8]) -> Result<(Self, Colouring), Refusal> {
         Plan::checked(Numbers::read(sheet)?)
     }

@@ -32,7 +32,7 @@ impl Refusal {
         let Refusal { code, place } = *self;
         let given = self.said(|listed| listed.given);
         if code == CONTENTS {
-            return format!("the sheet came over whole, but the plan in it is refused by {place}: {given}");
+            return format!("the plan in the sheet is refused by {place}: {given}");
         }
         match self.listed().find_map(|listed| listed.place) {
             Some(item) => format!("{given} ({item} {place})"),

@@ -8,6 +8,7 @@ mod call;
 mod converting;
 mod numbers;
 mod raw;
+mod salvaging;
 mod sheet;
 mod storing;
 
@@ -15,6 +16,7 @@ use crate::Refusal;
 pub use call::{call, call_records, Totals};
 pub use converting::{to_first, to_second};
 pub use numbers::Numbers;
+pub use salvaging::salvage;
 pub use sheet::Sheet;
 pub use storing::{read, write, write_records, write_second, Head};
 

@@ -32,6 +32,14 @@ pub struct WriteAnswer {
     pub bytes: u64,
 }
 
+/// What salvaging a sheet answers.
+#[repr(C)]
+pub struct SalvageAnswer {
+    pub code: u64,
+    pub place: u64,
+    pub lost: u64,
+}
+
 extern "C" {
     pub fn sctr_call(
         regions: u64,
@@ -159,6 +167,15 @@ extern "C" {
 
     pub fn sctr_to_second(sheet: *const u8, sheet_len: usize, converted: *mut u8, converted_len: usize) -> WriteAnswer;
     pub fn sctr_to_first(sheet: *const u8, sheet_len: usize, converted: *mut u8, converted_len: usize) -> WriteAnswer;
+
+    pub fn sctr_salvage(
+        sheet: *const u8,
+        sheet_len: usize,
+        salvaged: *mut u8,
+        salvaged_len: usize,
+        list: *mut u64,
+        list_len: usize,
+    ) -> SalvageAnswer;
 
     pub fn sctr_code(sheet: *const u8, sheet_len: usize) -> u64;
     pub fn sctr_place(sheet: *const u8, sheet_len: usize) -> u64;

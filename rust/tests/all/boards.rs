@@ -7,7 +7,7 @@ use crate::plans::{largest_whole_plan, moves, records, sheet_a, sheet_a_with_bot
 use crate::reference::{CONSTRAINTS, MOVES, REGIONS, SECTORS};
 use crate::sheets::files;
 use crate::typed::{self, board, built, numbers, region, row_numbers, sector, typed_move, Shown};
-use qirfadhun::{Board, Change, Colouring, Form, Move, Place, Plan, Refusal, Region, Relation};
+use qirfadhun::{Board, Change, Colouring, Form, Move, Place, Plan, Refusal, Region, Relation, Salvage};
 
 /// A call whose moves the types can hold.
 #[derive(Clone, Debug)]
@@ -311,6 +311,7 @@ fn on_a_small_stack() {
         assert_eq!(board.write(Form::First).map_err(|refusal| refusal.code), Err(41));
         assert_eq!(Board::read(&second).map(|read| read.total()), Ok(board.total()));
         assert_eq!(library::Sheet::new(&second).map(|sheet| sheet.total()), Ok(board.total()));
+        assert_eq!(qirfadhun::salvage(&second).map(|salvage| salvage.lost().map(|lost| lost.len())), Ok(Ok(0)));
 
         // By records, and a sheet of the first form there and back.
         let Numbers { regions, sectors, workloads, outside, edges, counts, visits, constraints, mut colouring } = flat;
@@ -348,6 +349,7 @@ fn boards_are_shared_and_sent() {
     both::<Plan>();
     both::<Board>();
     both::<Colouring>();
+    both::<Salvage>();
 }
 
 /// The largest plan, and lists at the limit.

@@ -47,6 +47,7 @@ fn in_c(kind: &str) -> &str {
         "Answer" => "sctr_call_answer",
         "Read" => "sctr_read_answer",
         "Written" => "sctr_write_answer",
+        "Salvaged" => "sctr_salvage_answer",
         other => panic!("{other} has no name in C"),
     }
 }
@@ -82,7 +83,8 @@ fn every_export_and_nothing_else() {
 
 #[test]
 fn structs() {
-    for (folder, name) in [("records", "Constraint"), ("call", "Answer"), ("reading", "Read"), ("writing", "Written")] {
+    let answers = [("call", "Answer"), ("reading", "Read"), ("writing", "Written"), ("salvage", "Salvaged")];
+    for (folder, name) in [("records", "Constraint")].into_iter().chain(answers) {
         let source = sources(folder);
         let fields = between(&source, &format!("pub struct {name} {{"), "}").expect("the struct");
         let fields = fields.split(',').filter_map(|field| field.trim().strip_prefix("pub "));

@@ -95,12 +95,12 @@ fn same_answers(ours: &[u8], theirs: &[u8]) -> Result<Code, String> {
 }
 
 impl Renamed<Sheet> {
-    fn bytes(&self) -> [Vec<u8>; 2] {
+    pub fn bytes(&self) -> [Vec<u8>; 2] {
         self.both().map(|sheet| sheet.bytes())
     }
 
     /// Those of smaller plans only where no byte is changed: in them a change might be one of names.
-    fn smaller(&self) -> impl Iterator<Item = Self> + '_ {
+    pub fn smaller(&self) -> impl Iterator<Item = Self> + '_ {
         let unchanged = self.ours.changes.is_empty();
         let smaller = self.ours.smaller().filter(move |smaller| unchanged || smaller.plan == self.ours.plan);
         smaller.map(|ours| Renamed::new(ours, &self.renaming))
@@ -197,7 +197,7 @@ fn nameless_change(random: &mut Random, sheet: &Sheet) -> Change {
 }
 
 /// A sheet whose plan is changed, or its bytes; then all blocks often have right numbers and checks.
-fn some_damaged_sheets(random: &mut Random) -> Renamed<Sheet> {
+pub fn some_damaged_sheets(random: &mut Random) -> Renamed<Sheet> {
     let mut sheet = Sheet::random(random);
     if random.once_in(4) {
         sheet.plan.break_one(random);

@@ -72,7 +72,7 @@ fn hold(refusal: Refusal, code: u64, place: u64) {
     let (own, lines) = if code == 37 { (place, None) } else { (code, Some(named.is_some())) };
     let given = words(own, lines, |line| &line.given);
     let sentence = match named {
-        _ if code == 37 => format!("the sheet came over whole, but the plan in it is refused by {place}: {given}"),
+        _ if code == 37 => format!("the plan in the sheet is refused by {place}: {given}"),
         Some(item) => format!("{given} ({item} {place})"),
         None => given,
     };
@@ -120,11 +120,14 @@ fn lent_memory() {
     let read = library::read(&bytes, &mut [0; 4], &mut [0; 5], &mut [0; 12], &mut [], &mut [], &mut [0; 16], &mut [0; 5]);
     hold(read.expect_err("too little"), 39, 0);
     hold(library::to_second(&bytes, &mut [0; 512]).expect_err("too little"), 40, 0);
+    let spoiled = Sheet::a(FORMS[0]).spoiled(&[0]).bytes();
+    hold(library::salvage(&spoiled, &mut [0; 512], &mut [0; 5]).expect_err("too little"), 40, 0);
+    hold(library::salvage(&spoiled, &mut [0; 5 * 512], &mut [0; 4]).expect_err("too little"), 17, 0);
 }
 
 #[test]
 fn every_code_has_its_test() {
-    let held = (1..=14).chain([22, 23]).chain(31..=41);
+    let held = (1..=14).chain([17, 22, 23]).chain(31..=41);
     let listed: BTreeSet<u64> = document().iter().map(|line| line.code).collect();
     // There is no typed move of a kind that is refused by 21.
     assert_eq!(listed, held.chain([21]).collect());

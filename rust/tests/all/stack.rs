@@ -5,7 +5,7 @@ use crate::calls::{self, Call};
 use crate::library::raw;
 use crate::plans::{largest_plan, largest_whole_plan, moves, Random};
 use crate::reference::{Verdicts, CONSTRAINTS, FIRST, MOVES, SECOND};
-use crate::sheets::{converting, reading, writing, Converting, Reading, Sheet, Writing};
+use crate::sheets::{converting, reading, salvaging, writing, Converting, Reading, Salvaging, Sheet, Writing};
 use std::thread::Builder;
 
 /// What a thread takes for itself.
@@ -44,10 +44,12 @@ fn calls_and_writings() {
 }
 
 #[test]
-fn readings_and_conversions() {
+fn readings_conversions_and_salvages() {
     let random = &mut Random::new(1);
-    let (plain, whole) = (largest_plan(random), largest_whole_plan(random));
-    let mut memory = reading::Memory::of(&Reading::new(Sheet::of(&SECOND, whole)));
+    let (plain, whole) = (largest_plan(random), Sheet::of(&SECOND, largest_whole_plan(random)));
+    let mut memory = salvaging::Memory::of(&Salvaging::new(whole.spoiled(&[1])));
+    assert_eq!(within("sctr_salvage", move || salvaging::by_archive(&mut memory)[2]), 12);
+    let mut memory = reading::Memory::of(&Reading::new(whole));
     assert_eq!(within("sctr_read", move || reading::by_archive(&mut memory)[0]), 0);
     for (name, form) in [("sctr_to_second", &FIRST), ("sctr_to_first", &SECOND)] {
         let mut memory = converting::Memory::of(&Converting::over(Sheet::of(form, plain.clone())));

@@ -30,6 +30,7 @@ static BY_CODE: [Kind; KINDS] = [
     Kind { widths: &[2, 4], in_full_block: 83 },       // 8, visits
 ];
 
+pub const COLOURING_KIND: usize = 5;
 pub const OUTSIDE_KIND: usize = 6;
 pub const COUNTS_KIND: usize = 7;
 

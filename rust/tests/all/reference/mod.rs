@@ -8,6 +8,7 @@ mod form;
 mod limits;
 mod meaning;
 mod plan;
+mod salvaging;
 mod sheet;
 mod verdicts;
 
@@ -18,5 +19,6 @@ pub use form::{Form, FIRST, FORMS, SECOND};
 pub use limits::*;
 pub use meaning::{distance, Meaning};
 pub use plan::{Plan, Visit};
+pub use salvaging::salvage;
 pub use sheet::{lay_out, read, write, write_second};
 pub use verdicts::Verdicts;

@@ -124,19 +124,39 @@ pub fn read(
     })
 }
 
-/// The plan and colouring that a sheet of this form stores, or the first of codes 31 to 38 that refuses it. How long a sheet may be
-/// goes by its own letters.
+/// The plan and colouring that a sheet of this form stores, or the first of codes 31 to 38 that refuses it.
 pub fn plan_in(form: &Form, sheet: &[u8]) -> Result<Plan, Refusal> {
+    let (head, blocks) = open(form, sheet)?;
+    let mut by_code = Payloads::default();
+    for (number, (block, (code, used))) in blocks.into_iter().enumerate() {
+        by_code[code - 1].extend(payload(form, block, code, number, used)?);
+    }
+    plan_of(form, &head, &by_code)
+}
+
+/// The used payload of all blocks of each kind, in the order of the kinds' codes.
+pub type Payloads = [Vec<u8>; KINDS];
+
+/// The kind and the used payload bytes that a block is due to have.
+type Due = (usize, usize);
+
+/// The blocks of a sheet, each with what is due there.
+type Blocks<'a> = Vec<(&'a [u8], Due)>;
+
+/// The head of a sheet and its blocks, or what refuses it before the later blocks are looked into: 31, 32 to 37 of the head, 38. How
+/// long a sheet may be goes by its own letters.
+pub fn open<'a>(form: &Form, sheet: &'a [u8]) -> Result<(Head, Blocks<'a>), Refusal> {
     let blocks: Vec<&[u8]> = sheet.chunks(BLOCK).collect();
     let most = Form::of(sheet).blocks;
     demand((1..=most).contains(&blocks.len()) && blocks.iter().all(|block| block.len() == BLOCK), 31, 0)?;
     let head = head_in(form, blocks[0])?;
     let due = due_blocks(form, &head);
     demand(blocks.len() == due.len(), 38, 0)?;
-    let mut by_code: [Vec<u8>; KINDS] = Default::default();
-    for (number, (block, (code, used))) in blocks.into_iter().zip(due).enumerate() {
-        by_code[code - 1].extend(payload(form, block, code, number, used)?);
-    }
+    Ok((head, blocks.into_iter().zip(due).collect()))
+}
+
+/// The plan and colouring that a form's payloads hold, or 37.
+pub fn plan_of(form: &Form, head: &Head, by_code: &Payloads) -> Result<Plan, Refusal> {
     let numbers: [Vec<u64>; KINDS] = std::array::from_fn(|place| unpack(&by_code[place], kind(place + 1).widths));
     let [_, workloads, edges, constraints, colouring, mut outside, counts, visits] = numbers;
     // Where the form has no outside areas, they are 0.
@@ -164,8 +184,8 @@ fn against_rules<T>(result: Result<T, Refusal>) -> Result<T, Refusal> {
     result.map_err(|refusal| Refusal { code: 37, place: refusal.code })
 }
 
-/// The kind and the used payload bytes of each block that the head asks for, in order.
-fn due_blocks(form: &Form, head: &Head) -> Vec<(usize, usize)> {
+/// What is due in each block that the head asks for, in order.
+fn due_blocks(form: &Form, head: &Head) -> Vec<Due> {
     let &Head { regions, edges, constraints, flights, visits, .. } = head;
     let by_code = [form.head as u64, regions, edges, constraints, regions, regions, flights, visits];
     let mut due = Vec::new();

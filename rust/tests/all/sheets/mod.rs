@@ -6,6 +6,7 @@ pub mod converting;
 pub mod printing;
 pub mod reading;
 mod refused;
+pub mod salvaging;
 pub mod writing;
 
 use crate::cases::{all_cases, random_cases};
@@ -15,7 +16,8 @@ pub use asking::{answers, Asked};
 pub use change::{lengths, Change};
 pub use converting::Converting;
 pub use reading::{numbers_in, Reading};
-pub use refused::sheet_damages;
+pub use refused::{block_damages, sheet_damages};
+pub use salvaging::Salvaging;
 use std::path::PathBuf;
 pub use writing::Writing;
 

@@ -33,7 +33,7 @@ fn length(code: u64, length: usize) -> Damage<Sheet> {
 }
 
 /// Damage to a block of these bytes for each of 32 to 36; after 33 the check is right.
-fn block_damages(bytes: &[u8], number: usize) -> Vec<Damage<Sheet>> {
+pub fn block_damages(bytes: &[u8], number: usize) -> Vec<Damage<Sheet>> {
     let place = |of_block: usize| number * BLOCK + of_block;
     let (kind, used) = (bytes[place(4)], u16::from_le_bytes([bytes[place(8)], bytes[place(9)]]));
     let after = PREFIX + usize::from(used);
