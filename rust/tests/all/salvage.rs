@@ -6,8 +6,7 @@ use crate::library;
 use crate::plans::{damaged, largest_whole_plan, plan_of, sheet_a, Damage, Numbers, Random};
 use crate::reference::*;
 use crate::sheets::salvaging::{by_library, by_reference, compare, lowest_beside, salvaged, Answer, Memory};
-use crate::sheets::{block_damages, numbers_in, reading, sheet_damages, Change, Salvaging, Sheet};
-use std::path::Path;
+use crate::sheets::{all_stored, block_damages, numbers_in, reading, sheet_damages, Change, Salvaging, Sheet};
 
 #[test]
 fn random_salvages() {
@@ -199,14 +198,12 @@ fn every_byte_of_sheet_a_flipped() {
     }
 }
 
-/// The head, the colouring, and the block before and after it.
+/// Sheets with one block of colouring that is full, and with two.
 #[test]
-fn bytes_of_large_sheets_flipped() {
-    for (form, regions) in [(&FIRST, 500), (&FIRST, 501), (&SECOND, 501)] {
+fn every_byte_of_large_sheets_flipped() {
+    for (form, regions) in [500, 501].into_iter().flat_map(|regions| FORMS.map(|form| (form, regions))) {
         let sheet = sheet_of(&mut Random::new(regions), form, regions);
-        let own = sheet.colouring_blocks();
-        let blocks = [0].into_iter().chain(own.start - 1..(own.end + 1).min(sheet.blocks()));
-        all_cases(&format!("flipped bytes of {regions} regions, {form:?}"), flipped(&sheet, blocks));
+        all_cases(&format!("flipped bytes of {regions} regions, {form:?}"), flipped(&sheet, 0..sheet.blocks()));
     }
 }
 
@@ -232,20 +229,10 @@ fn rooms_around_the_limit() {
 /// The sheets that are kept as files, those that are refused among them.
 #[test]
 fn sheet_files() {
-    let mut count = 0;
-    for folder in ["sheets", "sheets/refused"] {
-        let folder = Path::new(env!("CARGO_MANIFEST_DIR")).join("..").join(folder);
-        for entry in folder.read_dir().expect("a folder of sheets") {
-            let path = entry.expect("a file").path();
-            if path.extension().is_some_and(|extension| extension == "sheet") {
-                let bytes = std::fs::read(&path).expect("a sheet");
-                let [due, found] = [by_reference, by_library].map(|salvage| salvaged(&bytes, salvage));
-                assert_eq!(found, due, "{}", path.display());
-                count += 1;
-            }
-        }
+    for (path, bytes) in all_stored() {
+        let [due, found] = [by_reference, by_library].map(|salvage| salvaged(&bytes, salvage));
+        assert_eq!(found, due, "{}", path.display());
     }
-    assert!(count > 5);
 }
 
 /// A salvager for which a region that it has given a sector is one whose sector survived.

@@ -4,10 +4,9 @@ use crate::cases::{all_cases, random_cases, Case, Code};
 use crate::plans::sheet_a;
 use crate::reference::*;
 use crate::sheets::printing::{printed, run};
-use crate::sheets::{self, files, reading, Change, Sheet};
+use crate::sheets::{self, all_stored, files, reading, Change, Sheet};
 use std::collections::BTreeSet;
 use std::fs::OpenOptions;
-use std::path::Path;
 use std::process::Stdio;
 
 #[derive(Clone, Debug)]
@@ -56,18 +55,11 @@ fn sheet_files() {
 #[test]
 fn stored_texts() {
     let mut lengths = BTreeSet::new();
-    for folder in ["sheets", "sheets/refused"] {
-        let folder = Path::new(env!("CARGO_MANIFEST_DIR")).join("..").join(folder);
-        for entry in folder.read_dir().expect("a folder of sheets") {
-            let path = entry.expect("a file").path();
-            if path.extension().is_some_and(|extension| extension == "sheet") {
-                let bytes = std::fs::read(&path).expect("a sheet");
-                let text = std::fs::read_to_string(path.with_extension("text")).expect("its text");
-                assert_eq!(Verdicts::of(&bytes).text(), text, "{}", path.display());
-                assert_eq!(printed(&bytes), text, "{}", path.display());
-                lengths.insert(bytes.len() / BLOCK);
-            }
-        }
+    for (path, bytes) in all_stored() {
+        let text = std::fs::read_to_string(path.with_extension("text")).expect("its text");
+        assert_eq!(Verdicts::of(&bytes).text(), text, "{}", path.display());
+        assert_eq!(printed(&bytes), text, "{}", path.display());
+        lengths.insert(bytes.len() / BLOCK);
     }
     assert!(lengths.is_superset(&BTreeSet::from([SECOND.blocks, SECOND.blocks + 1])));
 }

@@ -18,7 +18,7 @@ pub use converting::Converting;
 pub use reading::{numbers_in, Reading};
 pub use refused::{block_damages, sheet_damages};
 pub use salvaging::Salvaging;
-use std::path::PathBuf;
+use std::path::{Path, PathBuf};
 pub use writing::Writing;
 
 /// The sheet of a form laid out from these numbers, and then changed in turn.
@@ -109,19 +109,29 @@ impl Sheet {
     }
 }
 
-/// The sheets that are kept as files, with the files' bytes.
-pub fn files() -> Vec<(Sheet, Vec<u8>)> {
-    let folder = std::fs::read_dir(concat!(env!("CARGO_MANIFEST_DIR"), "/../sheets")).expect("the folder of sheets");
-    let mut paths: Vec<_> = folder.map(|entry| entry.expect("a file").path()).collect();
+/// The sheets that are kept as files in a folder of the repository, with their paths.
+pub fn stored(folder: &str) -> Vec<(PathBuf, Vec<u8>)> {
+    let folder = Path::new(env!("CARGO_MANIFEST_DIR")).join("..").join(folder);
+    let mut paths: Vec<_> = folder.read_dir().expect("a folder of sheets").map(|entry| entry.expect("a file").path()).collect();
     paths.retain(|path| path.extension().is_some_and(|extension| extension == "sheet"));
     paths.sort();
-    let stored = |path: PathBuf| {
-        let bytes = std::fs::read(&path).expect("a sheet");
+    let bytes = |path: &PathBuf| std::fs::read(path).expect("a sheet");
+    paths.into_iter().map(|path| (path.clone(), bytes(&path))).collect()
+}
+
+/// Those in `sheets`, and those that are refused.
+pub fn all_stored() -> Vec<(PathBuf, Vec<u8>)> {
+    ["sheets", "sheets/refused"].into_iter().flat_map(stored).collect()
+}
+
+/// The sheets that are kept as files, with the files' bytes.
+pub fn files() -> Vec<(Sheet, Vec<u8>)> {
+    let sheet = |(path, bytes): (PathBuf, Vec<u8>)| {
         let numbers = numbers_in(&bytes, reading::by_reference);
         let numbers = numbers.unwrap_or_else(|code| panic!("{} is refused by {code:?}", path.display()));
         (Sheet::of(Form::of(&bytes), numbers), bytes)
     };
-    paths.into_iter().map(stored).collect()
+    stored("sheets").into_iter().map(sheet).collect()
 }
 
 /// Sheets of either form whose lists end just before, at and just after the end of a block.
