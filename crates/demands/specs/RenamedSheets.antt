@@ -75,7 +75,7 @@ module _ {p : ℕ → ℕ} {a b : List ℕ} (s : RenamedSheet (formIn a) p a b) 
   contents-by = rw (form-first (same-first s)) (contents-renamed s)
 
   -- they come to the same: refusal, constraints, verdicts and total
-  judgement-renamed : judgement b ≡ judgement a
+  pub judgement-renamed : judgement b ≡ judgement a
   unfolding judgement judged
   judgement-renamed =
       let k = contentsBy a in
@@ -87,7 +87,7 @@ module _ {p : ℕ → ℕ} {a b : List ℕ} (s : RenamedSheet (formIn a) p a b) 
 
 module _ {a b : List ℕ} (s : SameFirst a b) (n : refusal (openTable (formIn a) a) .code ≡ 0 → ⊥) where
   -- two sheets with the same first block that are refused for their length, head or number of blocks come to the same
-  judgement-first : judgement b ≡ judgement a
+  pub judgement-first : judgement b ≡ judgement a
   unfolding judgement
   judgement-first = let r = refused-first s (formIn a) n in rw (form-first s, r .0, ne-eqb (refusalBy a .code) 0 (r .1))
 

@@ -1,12 +1,11 @@
 -- The total is zero exactly when all constraints hold: over what a call answers and leaves, and over a sheet's bytes.
 -- Assumes nothing.
-use Prim.Native.Nat.{ℕ, suc, _+_, _-_, _*_, _/_, _<_}
-use native.Mathlib.Nat.{add-zero}
+use Prim.Native.Nat.{ℕ, suc, _-_, _*_, _/_, _<_}
 use native.Mathlib.Numerals.{sub-one}
 use native.Mathlib.Omega.{arith}
 use mathlib.Core.Path.{_≡_, refl, sym, _∙_}
 use mathlib.Core.Logic.{_↔_, Iff·trans}
-use mathlib.Core.Bool.{true, cond}
+use mathlib.Core.Bool.{true}
 use mathlib.Core.List.{List}
 use lib.ListN.{length, getD, take}
 use lib.Seq.{getD-take}
@@ -24,9 +23,9 @@ use Rattle.form.specs.ContentsLaws.{valid-contents}
 use Rattle.form.specs.Refusals.{refusalBy}
 use Rattle.form.specs.Accepted.{accepted}
 use Rattle.judging.specs.Judgement.{Judgement, planHeld, judged, refusedFor, judgement}
-use Rattle.judgement.specs.Promise.{code, totalOf, constraintCount, verdictAt}
+use Rattle.judgement.specs.Promise.{code, totalOf, constraintCount}
 use Rattle.judgement.specs.Promise as judgement
-use Rattle.demands.specs.RuleLaws.{one-of}
+use Rattle.judgement.specs.Places.{holds-said}
 use Rattle.demands.specs.Calls.{SamePlan, same-plan, call-valid, first-total, last-total, verdicts-left}
 
 -- ---- definitions
@@ -110,13 +109,8 @@ module _ (sheet : List ℕ) where
       (λ e _. sheet-holds sheet e)
       (λ ne e. absurd (ne e))
 
-  -- what is answered for holds at the place of a constraint is what its verdict says
-  holds-said : (place : ℕ) → In (constraintCount sheet) place → judgement.holds sheet place ≡ getD (judgement sheet .verdicts) (verdictLength * (place - 1)) 0
-  unfolding verdictAt
-  holds-said place h = rw (one-of (constraintCount sheet) place .1 h, add-zero (verdictLength * (place - 1)))
-
   -- of any sheet the total is 0 exactly when 1 is answered for holds at the place of each constraint; one that is refused has no constraints, and its total is 0
   pub sheet-zero-verdicts : totalOf sheet ≡ 0 ↔ ((place : ℕ) → In (constraintCount sheet) place → judgement.holds sheet place ≡ 1)
   sheet-zero-verdicts =
       Iff·trans (as-said sheet)
-      (λ f place h. holds-said place h ∙ f (place - 1) (omega arith), λ f k h. let i : In (constraintCount sheet) (suc k) = record { low = omega arith; high = h } in rw sub-one at (sym (holds-said (suc k) i) ∙ f (suc k) i))
+      (λ f place h. holds-said sheet place h ∙ f (place - 1) (omega arith), λ f k h. let i : In (constraintCount sheet) (suc k) = record { low = omega arith; high = h } in rw sub-one at (sym (holds-said sheet (suc k) i) ∙ f (suc k) i))

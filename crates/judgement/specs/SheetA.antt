@@ -37,7 +37,7 @@ unfolding sheetA refusal planRefusal planTable offFrom edgeRight constraintRight
 first-written = judgement-written First sheetA refl refl
 
 -- and with outside areas and flights, as a second
-second-written : judgement (sheetOf Second flownA) ≡ record { refusal = none; constraints = flownA .constraints; verdicts = verdictsHeld flownA; total = totalHeld flownA }
+pub second-written : judgement (sheetOf Second flownA) ≡ record { refusal = none; constraints = flownA .constraints; verdicts = verdictsHeld flownA; total = totalHeld flownA }
 unfolding sheetA flownA refusal planRefusal planTable offFrom edgeRight visitsRight constraintRight visitsOf flightsOf
 second-written = judgement-written Second flownA refl refl
 

@@ -4,30 +4,19 @@ use Prim.Native.Nat.{ℕ, _/_}
 use native.Mathlib.Omega.{arith}
 use mathlib.Core.Path.{_≡_, refl, ap, _∙_}
 use mathlib.Core.List.{List}
-use borrow.Author.Tests.{eq-eqb, ne-eqb}
 use lib.ListN.{length}
 use Rattle.meaning.specs.Plan.{constraintLength}
 use Rattle.refusals.specs.declared.Refusal.{Refusal}
 use Rattle.form.specs.declared.Head.{Head}
 use Rattle.form.specs.Form.{formIn, Contents, headBy, contentsBy}
 use Rattle.form.specs.ContentsLaws.{counted-in}
-use Rattle.form.specs.Refusals.{refusalBy}
 use Rattle.form.specs.Over.{over}
 use Rattle.holding.specs.Held.{contentsHeld, Holds}
 use Rattle.holding.specs.HeldLaws.{holds-contents}
 use Rattle.judging.specs.declared.Judged.{Judged}
 use Rattle.judging.specs.Judgement.{verdictsHeld, totalHeld, Judgement, judged, refusedFor, judgement}
+use Rattle.judging.specs.JudgementLaws.{judgement-refused, judgement-judged}
 use Rattle.judging.specs.Judged.{numbers, Leaves}
-
--- a sheet that is refused is judged so
-judgement-refused : (sheet : List ℕ) → (refusalBy sheet .code ≡ 0 → ⊥) → judgement sheet ≡ refusedFor (refusalBy sheet)
-unfolding judgement
-judgement-refused sheet n = rw (ne-eqb (refusalBy sheet .code) 0 n)
-
--- and one that is not, by its contents
-judgement-judged : (sheet : List ℕ) → refusalBy sheet .code ≡ 0 → judgement sheet ≡ judged sheet
-unfolding judgement
-judgement-judged sheet z = rw (eq-eqb (refusalBy sheet .code) 0 z)
 
 -- what is left, by what the sheet comes to
 leaves-by : {sheet cs vs cs′ vs′ : List ℕ} {r : Judged} {j : Judgement} → judgement sheet ≡ j → r ≡ numbers j → cs′ ≡ over (j .constraints) cs → vs′ ≡ over (j .verdicts) vs

@@ -1,19 +1,54 @@
--- Laws of how many of 1..n pass a test.
+-- Laws of how many of a list, and of how many of 1..n, pass a test.
 -- Assumes nothing.
-use Prim.Native.Nat.{ℕ, _+_, _≤_, _<_}
-use native.Mathlib.Nat.{le-of-eq}
+use Prim.Native.Nat.{ℕ, zero, suc, _+_, _≤_, _<_}
+use native.Mathlib.Nat.{le-of-eq, le-of-suc-le-suc, not-suc-le-zero}
 use native.Mathlib.Omega.{arith}
 use mathlib.Core.Path.{_≡_, refl, ap, _∙_}
 use mathlib.Core.List.{List, [], _∷_}
 use mathlib.Core.Logic.{_≢_, _⊎_, inl, inr}
-use mathlib.Core.Bool.{Bool, true, false, _||_}
+use mathlib.Core.Bool.{Bool, true, false, not, _&&_, _||_}
 use mathlib.Mathlib.Data.Bool.Basic.{or-inl, or-inr}
 use borrow.Author.Tests.{eqb-true, eq-eqb, ne-eqb}
 use lib.Dec.{eqb}
-use lib.ListN.{length}
+use lib.ListN.{length, getD}
 use Rattle.lists.specs.Sums.{In, bit, upTo, count}
 use Rattle.lists.specs.SumLaws.{length-from, few-bound, every-all, every-upTo, sum-same, sum-zero, sum-change}
 use Rattle.lists.specs.Tests.{bit-le}
+
+-- ---- of a list
+
+module _ {A : Type 0} where
+  -- some, where the one at an index does
+  pub counts-some : (test : A → Bool) (xs : List A) (i : ℕ) (d : A) → i < length xs → test (getD xs i d) ≡ true → 0 < count xs test
+  counts-some test [] i d h t = absurd (not-suc-le-zero h)
+  counts-some test (x ∷ xs) zero d h t = omega (arith, ap bit t)
+  counts-some test (x ∷ xs) (suc i) d h t = omega (arith, counts-some test xs i d (le-of-suc-le-suc h) t)
+
+  -- none, where none at any index does
+  pub counts-none : (test : A → Bool) (xs : List A) (d : A) → ((i : ℕ) → i < length xs → test (getD xs i d) ≡ false) → count xs test ≡ 0
+  counts-none test [] d h = refl
+  counts-none test (x ∷ xs) d h = omega (arith, ap bit (h 0 (omega arith)), counts-none test xs d (λ i l. h (suc i) (omega arith)))
+
+  -- those that pass it and those that fail it are all
+  pub count-parts : (test : A → Bool) (xs : List A) → count xs test + count xs (λ x. not (test x)) ≡ length xs
+  count-parts test [] = refl
+  count-parts test (x ∷ xs) = omega (arith, count-parts test xs, one (test x))
+    where
+      one : (b : Bool) → bit b + bit (not b) ≡ 1
+      one true = refl
+      one false = refl
+
+  -- those that pass it pass another or fail that
+  pub count-split : (p q : A → Bool) (xs : List A) → count xs (λ x. p x && q x) + count xs (λ x. p x && not (q x)) ≡ count xs p
+  count-split p q [] = refl
+  count-split p q (x ∷ xs) = omega (arith, count-split p q xs, one (p x) (q x))
+    where
+      one : (a b : Bool) → bit (a && b) + bit (a && not b) ≡ bit a
+      one true true = refl
+      one true false = refl
+      one false b = refl
+
+-- ---- of 1..n
 
 -- tests that agree on 1..n count the same
 pub count-same : (n : ℕ) (p q : ℕ → Bool) → ((u : ℕ) → In n u → p u ≡ q u) → count (upTo n) p ≡ count (upTo n) q

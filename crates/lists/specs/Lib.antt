@@ -1,6 +1,7 @@
 pub mod Sums
 pub mod Tests
 pub mod SumLaws
+pub mod Last
 pub mod Counts
 pub mod Onto
 pub mod ListLaws
@@ -8,6 +9,7 @@ pub mod Among
 pub mod Passing
 pub mod Places
 pub mod Parts
+pub mod Pairs
 pub mod Few
 pub mod Loops
 pub mod Copied

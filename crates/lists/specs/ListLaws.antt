@@ -7,8 +7,8 @@ use mathlib.Core.Path.{_≡_, refl, sym, ap, _∙_}
 use mathlib.Core.List.{List, [], _∷_, _++_, map}
 use lib.ListN.{length, getD, set, drop, length-map}
 use lib.Seq.{sets, getD-drop}
-use Rattle.lists.specs.Sums.{from, upTo, listOf, Every}
-use Rattle.lists.specs.SumLaws.{length-from, from-every, every-from, every-map}
+use Rattle.lists.specs.Sums.{In, from, upTo, listOf, Every}
+use Rattle.lists.specs.SumLaws.{length-from, from-every, every-from, every-upTo, every-map}
 
 drop-from : (k n j : ℕ) → j < n → drop j (from k n) ≡ (k + j) ∷ drop (suc j) (from k n)
 drop-from k zero j h = absurd (not-suc-le-zero h)
@@ -19,6 +19,10 @@ drop-from k (suc n) (suc j) h = drop-from (suc k) n j (le-of-suc-le-suc h) ∙ r
 pub map-ext : {A B : Type 0} (xs : List A) (f g : A → B) → Every (λ x. f x ≡ g x) xs → map f xs ≡ map g xs
 map-ext [] f g e = refl
 map-ext (x ∷ xs) f g e = rw (e .0, map-ext xs f g (e .1))
+
+-- functions that agree on 1..n make the same table
+pub table-same : (n : ℕ) (f g : ℕ → ℕ) → ((u : ℕ) → In n u → f u ≡ g u) → map f (upTo n) ≡ map g (upTo n)
+table-same n f g h = map-ext (upTo n) f g (every-upTo (λ u. f u ≡ g u) n h)
 
 -- from index k on: k, and what follows it
 pub drop-places : (n k : ℕ) → k < n → drop k (from 0 n) ≡ k ∷ drop (suc k) (from 0 n)

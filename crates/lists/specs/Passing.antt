@@ -10,7 +10,7 @@ use mathlib.Core.Logic.{_⊎_, inl, inr, ⊎-elim, _↔_}
 use mathlib.Core.Bool.{Bool, true, false, cond, false≢true}
 use lib.ListN.{length, set, drop, length-set, drop-of-length-le}
 use lib.Seq.{sets, sets-eq}
-use Rattle.lists.specs.Sums.{In, bit, upTo, count, passing, Every}
+use Rattle.lists.specs.Sums.{In, bit, upTo, sum, count, passing, Every}
 use Rattle.lists.specs.Among.{Among, among-none, among-first, among-later, among-cases, among-upTo, Rising}
 
 -- ---- of any list
@@ -35,6 +35,16 @@ module _ {A : Type 0} (test : A → Bool) where
       go : (b : Bool) → length (passing test xs) ≡ count xs test → length (cond b (x ∷ passing test xs) (passing test xs)) ≡ bit b + count xs test
       go true e = omega arith
       go false e = omega arith
+
+  -- a sum to which only those bring something that pass it is the sum over them
+  pub sum-passing : (f : A → ℕ) → ((x : A) → test x ≡ false → f x ≡ 0) → (xs : List A) → sum (passing test xs) f ≡ sum xs f
+  unfolding passing
+  sum-passing f h [] = refl
+  sum-passing f h (x ∷ xs) = go (test x) refl (sum-passing f h xs)
+    where
+      go : (b : Bool) → test x ≡ b → sum (passing test xs) f ≡ sum xs f → sum (cond b (x ∷ passing test xs) (passing test xs)) f ≡ f x + sum xs f
+      go true e r = omega (arith, r)
+      go false e r = omega (arith, r, h x e)
 
   -- none, where each fails
   pub passing-none : (xs : List A) → Every (λ x. test x ≡ false) xs → passing test xs ≡ []

@@ -9,6 +9,7 @@ use mathlib.Core.List.{List, [], _∷_}
 use mathlib.Core.Logic.{_↔_, Iff·trans}
 use mathlib.Core.Bool.{Bool, true, false, not, false≢true}
 use borrow.Author.Tests.{eqb-true, eq-eqb}
+use lib.Dec.{eqb}
 use lib.ListN.{length, getD}
 use Rattle.lists.specs.Sums.{bit, sum, Every}
 use Rattle.lists.specs.SumLaws.{zero-each, every-all, every-turn}
@@ -66,7 +67,7 @@ both-zero : {x y : ℕ} {A B : Type 0} → (x ≡ 0 ↔ A) → (y ≡ 0 ↔ B) �
 both-zero h k = (λ e. (h .0 (omega arith), k .0 (omega arith)), λ p. omega (arith, h .1 (p .0), k .1 (p .1)))
 
 -- 1 for a test that fails: 0 exactly when it passes
-failed-zero : (t : Bool) → bit (not t) ≡ 0 ↔ t ≡ true
+pub failed-zero : (t : Bool) → bit (not t) ≡ 0 ↔ t ≡ true
 failed-zero true = (λ e. refl, λ e. refl)
 failed-zero false = (λ e. absurd (omega arith), λ e. absurd (false≢true e))
 
@@ -111,6 +112,18 @@ module _ (P : Plan) (col : List ℕ) where
       said : SayHolds (length ks) (verdictsOf P col ks) → holds P col c ≡ true → SayHolds (suc (length ks)) (verdictsOf P col (c ∷ ks))
       said f e zero h = bit-one (holds P col c) .1 e
       said f e (suc k) h = rw (later k) (f k (omega arith))
+
+  -- so 0 is said of one that does not hold, and of no other
+  pub verdict-says : (ks : List Constraint) (d : Constraint) (k : ℕ) → k < length ks → eqb (getD (verdictsOf P col ks) (verdictLength * k) 0) 0 ≡ not (holds P col (getD ks k d))
+  unfolding verdictsOf verdict
+  verdict-says [] d k h = absurd (omega arith)
+  verdict-says (c ∷ ks) d zero h = one (holds P col c)
+    where
+      one : (b : Bool) → eqb (bit b) 0 ≡ not b
+      one true = refl
+      one false = refl
+  verdict-says (c ∷ ks) d (suc k) h =
+      let later : verdictLength * suc k ≡ suc (suc (verdictLength * k)) = omega arith in rw later (verdict-says ks d k (omega arith))
 
   module _ (k : Constraint) where
     -- it holds exactly when the number that its violation comes to is 0
