@@ -1,4 +1,4 @@
--- Document 01, "The program `verdicts`": the text that it prints.
+-- The texts that the programs print: document 01, "The program `verdicts`"; document 02, C-22.
 -- Assumes nothing.
 use Prim.Native.Nat.{ℕ, zero, suc, _+_, _*_, _/_}
 use Prim.Native.Char.{code}
@@ -53,15 +53,28 @@ verdictText constraints verdicts total = lines constraints verdicts (length cons
 unfoldable pub refusedText : ℕ → ℕ → List ℕ
 refusedText code place = ascii "refused " ++ number code space ++ number place newline
 
+-- each number on a line of its own
+unfoldable pub numberLines : List ℕ → List ℕ
+numberLines [] = []
+numberLines (n ∷ ns) = number n newline ++ numberLines ns
+
 -- ---- the longest text
 
--- four numbers, each with the byte after it
-abbrev pub mostLine : ℕ
-mostLine = 4 * (mostDigits + 1)
+-- a number and the byte after it
+abbrev pub mostNumber : ℕ
+mostNumber = mostDigits + 1
 
--- a line for each constraint, the word before the total, the total and the byte after it
+-- four numbers
+abbrev pub mostLine : ℕ
+mostLine = 4 * mostNumber
+
+-- a word and two numbers
+abbrev pub mostRefused : ℕ
+mostRefused = length (ascii "refused ") + 2 * mostNumber
+
+-- a line for each constraint, the word before the total, and the total
 abbrev pub mostText : ℕ
-mostText = mostConstraints * mostLine + (length (ascii "total ") + (mostDigits + 1))
+mostText = mostConstraints * mostLine + (length (ascii "total ") + mostNumber)
 
 -- ---- document 01's lines
 

@@ -1,4 +1,4 @@
-// The text that the program `verdicts` prints, put into a lent buffer.
+// The texts that the programs print, put into a lent buffer.
 ghost use mathlib.Core.Path.{_≡_};
 ghost use mathlib.Core.List.{[], _∷_, _++_};
 ghost use Prim.Native.Nat.{_+_, _*_, _/_, _≤_, _<_};
@@ -8,7 +8,7 @@ ghost use Rattle.meaning.specs.Plan.{constraintLength, mostConstraints};
 ghost use Rattle.meaning.specs.Moves.{verdictLength};
 ghost use Rattle.report.specs.Decimal.{decimal};
 ghost use Rattle.report.specs.Placed.{Placed};
-ghost use Rattle.report.specs.Text.{number, line, lineAt, totalLine, verdictText, refusedText, mostText};
+ghost use Rattle.report.specs.Text.{number, line, lineAt, totalLine, verdictText, refusedText, numberLines, mostNumber, mostRefused, mostText};
 use packing::copy_to;
 use terms::limits::CONSTRAINT_LENGTH;
 use terms::limits::MOST_CONSTRAINTS;
@@ -17,11 +17,17 @@ use terms::limits::VERDICT_LENGTH;
 // The most digits that a u64 has.
 const MOST_DIGITS: usize = 20;
 
-// The most bytes of a line: four numbers, each with a byte after it.
-const MOST_LINE: usize = 4 * (MOST_DIGITS + 1);
+// The most bytes of a number and the byte after it.
+pub const MOST_NUMBER: usize = MOST_DIGITS + 1;
+
+// The most bytes of a line: four numbers.
+const MOST_LINE: usize = 4 * MOST_NUMBER;
+
+// The most bytes of a refusal: `refused ` and two numbers.
+pub const MOST_REFUSED: usize = 8 + 2 * MOST_NUMBER;
 
 // The most bytes of a text, so that a buffer of so many has room for any: a line for each constraint, then `total ` and a number.
-pub const MOST_TEXT: usize = MOST_CONSTRAINTS as usize * MOST_LINE + (6 + (MOST_DIGITS + 1));
+pub const MOST_TEXT: usize = MOST_CONSTRAINTS as usize * MOST_LINE + (6 + MOST_NUMBER);
 
 const TOTAL: [u8; 6] = *b"total ";
 
@@ -120,13 +126,36 @@ pub fn put_verdicts(constraints: &[u64], verdicts: &[u64], total: u64, text: &mu
     put_total(text, end, total)
 }
 
+// Puts a refusal's code and place down at `at`, and answers where the text ends.
+pub fn put_refused(text: &mut [u8], at: usize, code: u64, place: u64) -> usize
+    requires { ⌜ at + mostRefused ≤ length (now text) ⌝ }
+    ensures { λ end. ⌜ Placed (now (text .entry)) at (refusedText code place) (now (text .exit)) end ⌝ }
+{
+    let past_word = put_word(text, at, &REFUSED);
+    let past_code = put_number(text, past_word, code, SPACE);
+    put_number(text, past_code, place, NEWLINE)
+}
+
 // Puts down, at the buffer's start, a refusal's code and place, and answers how many of its bytes that is; what lies beyond stays.
 pub fn put_refusal(code: u64, place: u64, text: &mut [u8]) -> usize
     requires { ⌜ mostText ≤ length (now text) ⌝ }
     ensures { λ r. ⌜ Counts r (now (text .exit)) ⌝ }
     ensures { λ r. let t = refusedText code place in ⌜ (r ≡ length t) × (now (text .exit) ≡ t ++ drop (length t) (now (text .entry))) ⌝ }
 {
-    let past_word = put_word(text, 0, &REFUSED);
-    let past_code = put_number(text, past_word, code, SPACE);
-    put_number(text, past_code, place, NEWLINE)
+    put_refused(text, 0, code, place)
+}
+
+// Puts each number down on a line of its own, from `at` on, and answers where the last line ends.
+pub fn put_lines(text: &mut [u8], at: usize, numbers: &[u64]) -> usize
+    requires { ⌜ at + mostNumber * length (now numbers) ≤ length (now text) ⌝ }
+    ensures { λ end. ⌜ Placed (now (text .entry)) at (numberLines (now (numbers .entry))) (now (text .exit)) end ⌝ }
+    ensures { λ end. ⌜ end ≤ at + mostNumber * length (now (numbers .entry)) ⌝ }
+{
+    let mut end = at;
+    let mut k = 0;
+    while k < numbers.len() {
+        end = put_number(text, end, numbers[k], NEWLINE);
+        k += 1;
+    }
+    end
 }

@@ -1,49 +1,17 @@
--- Each part is put down where the one before it ends, and the longest refusal has room.
-use Prim.Native.Nat.{_≤_}
-use native.Mathlib.Omega.{arith}
+-- The refusal is put down at the buffer's start, and the longest has room.
 use borrow.Author.Needs.{needs}
-use lib.ListN.{length, length-append}
-use Rattle.report.specs.Placed.{placed-then, placed-start, placed-counts}
-use Rattle.report.specs.Text.{refusedText, mostText}
-use Rattle.report.specs.TextLaws.{refused-length}
+use Rattle.report.specs.Placed.{placed-start, placed-counts}
 use Rattle.report.proofs.put_refusal.Statement.{statement}
 use Rattle.report.proofs.put_refusal.Tie as tie
 
-fits : (start : tie.Start) → length (refusedText (start .args .code) (start .args .place)) ≤ mostText
-fits start = refused-length _ _ (start .fits .code .fits) (start .fits .place .fits)
-
-slice-aggregate-put-word : tie.Need-slice-aggregate-put-word
-slice-aggregate-put-word c = search needs
-
-put-word-requires : tie.Need-put-word-requires
-put-word-requires c κs = search needs
-
-put-number-requires : tie.Need-put-number-requires
-unfolding refusedText
-put-number-requires c κs = omega (arith, simp length-append at (fits (c .before .before .before .before .before .before .before)))
-
-put-number-requires-2 : tie.Need-put-number-requires-2
-unfolding refusedText
-put-number-requires-2 c κs = omega (arith, simp length-append at (fits (c .before .before .before .before .before .before .before .before .before .before .before)))
+put-refused-requires : tie.Need-put-refused-requires
+put-refused-requires c κs = search needs
 
 same-length : tie.Need-same-length
 same-length c = search needs
 
 returns : tie.Need-returns
-unfolding refusedText
-returns c =
-    let past-word = c .before .before .before .before .before .before .before .before .before .before .put-word .ensures in
-    let past-code = c .before .before .before .before .before .before .put-number .ensures in
-    let p = placed-then (placed-then past-word past-code) (c .before .before .put-number2 .ensures) in
-    (placed-counts p, placed-start p)
+returns c = let p = c .before .before .put-refused .ensures in (placed-counts p, placed-start p)
 
 pub put-refusal-spec : {M : Type 1} → statement M
-put-refusal-spec =
-    tie.close
-    (tie.spec
-    slice-aggregate-put-word
-    put-word-requires
-    put-number-requires
-    put-number-requires-2
-    same-length
-    returns)
+put-refusal-spec = tie.close (tie.spec put-refused-requires same-length returns)
