@@ -1,0 +1,14 @@
+pub mod Review
+pub mod Stream
+pub mod StreamLaws
+pub mod Next
+pub mod SoFar
+pub mod Extremes
+pub mod Counts
+pub mod Failed
+pub mod Refused
+pub mod Same
+pub mod Example
+pub mod Bounds
+pub mod Printed
+pub mod Judging
