@@ -27,6 +27,7 @@ pub mod Writings
 pub mod Conversions
 pub mod Converted
 pub mod RenamedSheets
+pub mod Reviews
 pub mod Salvages
 pub mod Salvaged
 pub mod RenamedSalvages

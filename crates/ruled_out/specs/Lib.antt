@@ -2,3 +2,4 @@ pub mod Bytes
 pub mod Reader
 pub mod Sheets
 pub mod Names
+pub mod Reviews
