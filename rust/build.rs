@@ -11,7 +11,7 @@ use std::fs;
 use std::path::{Path, PathBuf};
 use std::time::SystemTime;
 
-const COMMAND: &str = "run `rt staticlib screen` in the repository first, and for the tests `rt check verdicts`";
+const COMMAND: &str = "run `rt staticlib screen` in the repository first, and for the tests `rt check verdicts figures`";
 
 fn main() {
     let archive = Path::new("../target/staticlib/libscreen.a");

@@ -17,7 +17,7 @@ pub struct Listed {
 }
 
 /// The codes in the order in which they are checked: of a plan and a call on it, of a move, of a sheet, of writing and converting
-/// one, of salvaging one.
+/// one, of salvaging one, of figures over many.
 pub const LISTED: &[Listed] = &[
     Listed {
         code: 1,
@@ -269,5 +269,12 @@ pub const LISTED: &[Listed] = &[
         given: "the room for the list is less than one number a lost region",
         meaning: "too little memory was lent",
         remedy: "lend one number a region: 512 are enough for every sheet",
+    },
+    Listed {
+        code: 18,
+        place: Some("sheet"),
+        given: "a sheet's block count is not in 1..74, or the input ends inside a count or inside a sheet",
+        meaning: "the input was cut off, or has something else where a count is due; the figures are over the sheets before it",
+        remedy: "put before each sheet how many blocks of 512 bytes it has, in two bytes, the lower one first, leave out what is not 1 to 74 whole blocks, and send all of it again",
     },
 ];

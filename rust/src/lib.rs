@@ -53,6 +53,9 @@
 //! # Ok::<(), Box<dyn std::error::Error>>(())
 //! ```
 //!
+//! The proved program `figures` reads up to 1,000 sheets and prints figures over them, one number a line. A [`Review`] is read from
+//! that text, and has each number by its name; the program `review` shows it for files.
+//!
 //! There are two sheets. The [first](Form::First) has the letters SCTR in every block; it carries no outside areas and no flights,
 //! and holds constraints of the kinds 1 to 4 only. The [second](Form::Second) has the letters SCT2, and carries a whole plan.
 //! Either is read by its letters.
@@ -79,6 +82,7 @@ mod plan;
 mod reason;
 mod refusal;
 mod relation;
+mod review;
 mod salvage;
 mod sectors;
 mod stretches;
@@ -96,6 +100,7 @@ pub use plan::{Edge, Plan};
 pub use reason::{Cause, Reason, Unexplained};
 pub use refusal::Refusal;
 pub use relation::{Relation, Side};
+pub use review::{Extreme, Review, Unfit, Unread};
 pub use salvage::{salvage, Lost, Salvage, Untraced};
 pub use sectors::{Component, SectorFigures};
 pub use stretches::Stretch;

@@ -1,4 +1,4 @@
-//! The most that a plan and its sheet can have, so that lent memory can be given enough room.
+//! The most that a plan, its sheet and an input of many sheets can have, so that lent memory can be given enough room.
 
 /// The regions of a plan.
 pub const MOST_REGIONS: usize = 512;
@@ -29,3 +29,6 @@ pub const MOST_BYTES: usize = 43 * 512;
 
 /// The bytes of the largest second sheet: 74 blocks.
 pub const MOST_SECOND_BYTES: usize = 74 * 512;
+
+/// The sheets in one input of the program `figures`.
+pub const MOST_SHEETS: usize = 1_000;

@@ -11,13 +11,15 @@
 //! written: no sheet goes round whose sectors were given and nobody was told. Where only the last line can't be said, the file stays,
 //! and standard error says so.
 
-use qirfadhun::limits::MOST_SECOND_BYTES;
+mod telling;
+
 use qirfadhun::{lists, Lost, Refusal, Salvage};
 use std::ffi::OsString;
 use std::fs::{self, File};
-use std::io::{self, ErrorKind, Read, Write};
+use std::io::{self, ErrorKind, Write};
 use std::path::{Path, PathBuf};
 use std::process::ExitCode;
+use telling::{about, complain, name, read, say};
 
 const USAGE: &str = "usage: salvage IN OUT
 
@@ -56,16 +58,9 @@ fn salvage(from: &Path, to: &Path) -> Result<(), String> {
     say(&about(from, report(&salvage, &lost)))?;
     written.name(to).map_err(|error| about(to, error))?;
     if let Err(why) = say(&about_written(from, to, &salvage)) {
-        complain(&format!("{why}\n{} is written.", to.display()));
+        complain(&format!("{why}\n{} is written.", name(to)));
     }
     Ok(())
-}
-
-/// The bytes of a file, as far as a sheet can go and one more.
-fn read(path: &Path) -> io::Result<Vec<u8>> {
-    let mut bytes = Vec::new();
-    File::open(path)?.take(MOST_SECOND_BYTES as u64 + 1).read_to_end(&mut bytes)?;
-    Ok(bytes)
 }
 
 /// How many regions lost their sectors, and which; a line for each that was given a neighbour's, and one for all others.
@@ -110,9 +105,9 @@ fn runs<'a>(lost: impl Iterator<Item = &'a Lost>) -> String {
 
 /// That the file is there, and what to think of it.
 fn about_written(from: &Path, to: &Path, salvage: &Salvage) -> String {
-    let (to, bytes) = (to.display(), salvage.bytes().len());
+    let (to, bytes) = (name(to), salvage.bytes().len());
     match salvage.is_whole() {
-        true => format!("{to} is written, {bytes} bytes, the same as in {}.\n", from.display()),
+        true => format!("{to} is written, {bytes} bytes, the same as in {}.\n", name(from)),
         false => {
             format!("{to} is written, {bytes} bytes, and can be read. What is given above is a guess, not what was drawn.\n")
         }
@@ -126,22 +121,6 @@ fn refused(refusal: Refusal) -> String {
         _ => " Only a damaged colouring can be salvaged.",
     };
     format!("{refusal}.\nWhat it means: {}.{more}\nWhat to do: {}.", refusal.meaning(), refusal.remedy())
-}
-
-fn about(path: &Path, what: impl std::fmt::Display) -> String {
-    format!("{}: {what}", path.display())
-}
-
-/// Prints to standard output, and tells where that takes it no more.
-fn say(text: &str) -> Result<(), String> {
-    let mut output = io::stdout().lock();
-    let said = output.write_all(text.as_bytes()).and_then(|()| output.flush());
-    said.map_err(|error| format!("salvage: not all of the text could be written: {error}"))
-}
-
-/// Prints to standard error, as far as it takes it.
-fn complain(text: &str) {
-    let _ = writeln!(io::stderr(), "{text}");
 }
 
 /// A new file that has another name than it is to be given. That name goes, and the file with it where it has no other.

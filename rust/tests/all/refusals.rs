@@ -9,7 +9,7 @@ use crate::sheets::{sheet_damages, Sheet};
 use crate::typed::{board, built, constraint, numbers, region, sector, Shown};
 use qirfadhun::codes::LISTED;
 use qirfadhun::{
-    Area, Board, Change, Colouring, Form, Kind, Move, Plan, PlanBuilder, Refusal, Relation, Seconds, Sector, Workload,
+    Area, Board, Change, Colouring, Form, Kind, Move, Plan, PlanBuilder, Refusal, Relation, Review, Seconds, Sector, Workload,
 };
 use std::collections::BTreeSet;
 
@@ -125,9 +125,20 @@ fn lent_memory() {
     hold(library::salvage(&spoiled, &mut [0; 5 * 512], &mut [0; 4]).expect_err("too little"), 17, 0);
 }
 
+/// An input that is cut off, in the text of figures over what came before.
+#[test]
+fn figures() {
+    let stopped = |text: &str| text.parse::<Review>().expect("figures").stopped();
+    let none = "0\n".repeat(12);
+    assert_eq!(stopped(&none), None);
+    hold(stopped(&format!("{none}refused 18 1\n")).expect("a refusal"), 18, 1);
+    let refused = format!("0\n999\n{}refused 18 1000\n", "0\n".repeat(10));
+    hold(stopped(&refused).expect("a refusal"), 18, 1_000);
+}
+
 #[test]
 fn every_code_has_its_test() {
-    let held = (1..=14).chain([17, 22, 23]).chain(31..=41);
+    let held = (1..=14).chain([17, 18, 22, 23]).chain(31..=41);
     let listed: BTreeSet<u64> = document().iter().map(|line| line.code).collect();
     // There is no typed move of a kind that is refused by 21.
     assert_eq!(listed, held.chain([21]).collect());

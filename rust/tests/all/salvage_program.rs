@@ -2,90 +2,23 @@
 
 use crate::library;
 use crate::plans::{sheet_a, Numbers};
+use crate::programs::{Ended, Folder};
 use crate::reference::{BLOCK, FIRST, PREFIX, SECOND};
 use crate::sheets::salvaging::{by_reference, salvaged};
 use crate::sheets::{files, Change, Sheet};
-use std::ffi::{OsStr, OsString};
+use std::ffi::OsStr;
 use std::fs::{self, OpenOptions};
 use std::os::unix::ffi::OsStrExt;
 use std::os::unix::fs::symlink;
-use std::path::{Path, PathBuf};
-use std::process::{Child, Command, Output, Stdio};
+use std::path::Path;
+use std::process::Command;
 
-/// A folder of a test's own, which goes with it.
-struct Folder(PathBuf);
-
-impl Folder {
-    /// The folder, with these files in it.
-    fn new(name: &str, files: &[(&str, &[u8])]) -> Self {
-        let folder = Path::new(env!("CARGO_TARGET_TMPDIR")).join(format!("salvage-{name}-{}", std::process::id()));
-        fs::create_dir_all(&folder).expect("a folder");
-        for (name, bytes) in files {
-            fs::write(folder.join(name), bytes).expect("a file");
-        }
-        Folder(folder)
-    }
-
-    fn read(&self, name: impl AsRef<OsStr>) -> Vec<u8> {
-        fs::read(self.0.join(name.as_ref())).expect("a file")
-    }
-
-    fn names(&self) -> Vec<OsString> {
-        let mut names: Vec<_> = self.0.read_dir().expect("the folder").map(|entry| entry.expect("a file").file_name()).collect();
-        names.sort();
-        names
-    }
-
-    /// The program, run in this folder. Where the machine can't run it by itself, `QIRFADHUN_RUNNER` names the emulator that does.
-    fn program(&self) -> Command {
-        self.command([])
-    }
-
-    /// The program, run in this folder by a shell that does this first.
-    fn program_after(&self, first: &str) -> Command {
-        self.command(["sh", "-c", &format!("{first}; exec \"$@\""), "sh"])
-    }
-
-    fn command<const N: usize>(&self, before: [&str; N]) -> Command {
-        let runner = std::env::var_os("QIRFADHUN_RUNNER");
-        let mut words = before.map(OsString::from).into_iter().chain(runner).chain([env!("CARGO_BIN_EXE_salvage").into()]);
-        let mut command = Command::new(words.next().expect("a program"));
-        command.args(words).current_dir(&self.0);
-        command
-    }
-
-    fn run(&self, arguments: &[&str]) -> Ended {
-        Ended::of(self.program().args(arguments))
-    }
+/// A folder of a test's own for this program.
+fn folder(name: &str, files: &[(&str, &[u8])]) -> Folder {
+    Folder::new(env!("CARGO_BIN_EXE_salvage"), name, files)
 }
-
-impl Drop for Folder {
-    fn drop(&mut self) {
-        let _ = fs::remove_dir_all(&self.0);
-    }
-}
-
-/// The status, and what was printed to standard output and to standard error.
-#[derive(Debug, PartialEq)]
-struct Ended(i32, String, String);
 
 impl Ended {
-    fn of(command: &mut Command) -> Self {
-        Ended::with_output(command, Stdio::piped())
-    }
-
-    /// With another standard output, of which nothing is seen here.
-    fn with_output(command: &mut Command, out: impl Into<Stdio>) -> Self {
-        let started = command.stdin(Stdio::null()).stdout(out).stderr(Stdio::piped()).spawn();
-        let Output { status, stdout, stderr } = started.and_then(Child::wait_with_output).expect("the program ends");
-        let [out, err] = [stdout, stderr].map(|text| String::from_utf8(text).expect("a text"));
-        Ended(status.code().expect("the program ends by itself"), out, err)
-    }
-
-    fn with(status: i32, out: &str, err: &str) -> Self {
-        Ended(status, out.to_string(), err.to_string())
-    }
-
     /// It wrote nothing, and said why.
     fn without(why: &str) -> Self {
         Ended(2, String::new(), format!("{why}\nNothing was written.\n"))
@@ -121,7 +54,7 @@ fn given(line: &str) -> Vec<u64> {
 
 #[test]
 fn a_spoiled_sheet_a() {
-    let folder = Folder::new("spoiled", &[("in", &spoiled())]);
+    let folder = folder("spoiled", &[("in", &spoiled())]);
     assert_eq!(folder.run(&["in", "out"]), Ended::with(0, &format!("{LOST}{WRITTEN}"), ""));
     assert_eq!(folder.names(), ["in", "out"]);
     assert_eq!(folder.read("in"), spoiled());
@@ -133,7 +66,7 @@ fn a_spoiled_sheet_a() {
 fn some_regions_of_sheet_a() {
     let with = |colouring: [u64; 5]| Sheet::of(&FIRST, Numbers { colouring: colouring.to_vec(), ..sheet_a() }).bytes();
     let folder =
-        Folder::new("some", &[("one", &with([1, 0, 1, 2, 2])), ("two", &with([1, 1, 2, 3, 3])), ("a", &with([1, 1, 1, 2, 2]))]);
+        folder("some", &[("one", &with([1, 0, 1, 2, 2])), ("two", &with([1, 1, 2, 3, 3])), ("a", &with([1, 1, 1, 2, 2]))]);
     let written = |name: &str| WRITTEN.replacen("out", name, 1);
     let one = "one: 1 of 5 regions has lost its sector: 2.
 Region 2 is in sector 1 now, as region 1 is, its lowest-numbered neighbour whose sector survived.
@@ -161,7 +94,7 @@ fn refused_files() {
     assert!(fs::read(stored("spoiled.sheet")).is_ok_and(|bytes| bytes == spoiled()));
     let stray = Sheet::of(&FIRST, Numbers { colouring: vec![1, 0, 1, 3, 2], ..sheet_a() });
     assert!(fs::read(stored("stray.sheet")).is_ok_and(|bytes| bytes == stray.bytes()));
-    let folder = Folder::new("stored", &[]);
+    let folder = folder("stored", &[]);
     for (name, lost, total) in [("spoiled.sheet", vec![1, 2, 3, 4, 5], 555), ("stray.sheet", vec![2, 4], 290)] {
         let Ended(status, out, err) = Ended::of(folder.program().arg(stored(name)).arg(name));
         assert_eq!((status, out.lines().flat_map(given).collect::<Vec<_>>(), &err[..]), (0, lost, ""));
@@ -176,7 +109,7 @@ fn sheet_files() {
     for (number, (sheet, _)) in files().into_iter().enumerate() {
         for block in 0..sheet.colouring_blocks().len() {
             let bytes = sheet.spoiled(&[block]).bytes();
-            let folder = Folder::new(&format!("file-{number}-{block}"), &[("in", &bytes)]);
+            let folder = folder(&format!("file-{number}-{block}"), &[("in", &bytes)]);
             let Ended(status, out, err) = folder.run(&["in", "out"]);
             assert_eq!((status, &err[..]), (0, ""));
             let (saved, lost) = salvaged(&bytes, by_reference).expect("a salvage");
@@ -209,7 +142,7 @@ fn refused_sheets() {
     ];
     for (code, place, sheet) in sheets {
         let bytes = sheet.bytes();
-        let folder = Folder::new(&format!("refused-{code}"), &[("in", &bytes)]);
+        let folder = folder(&format!("refused-{code}"), &[("in", &bytes)]);
         let refusal = qirfadhun::salvage(&bytes).expect_err("a refusal");
         assert_eq!((refusal.code, refusal.place), (code, place));
         let (means, remedy) = (refusal.meaning(), refusal.remedy());
@@ -219,7 +152,7 @@ fn refused_sheets() {
         assert_eq!(folder.run(&["in", "out"]), Ended::without(&said));
         assert_eq!((folder.names(), folder.read("in")), (vec!["in".into()], bytes));
     }
-    let folder = Folder::new("refused", &[("in", &Sheet::a(&FIRST).changed(&[Change::Put(2 * BLOCK + 6, 9)]).bytes())]);
+    let folder = folder("refused", &[("in", &Sheet::a(&FIRST).changed(&[Change::Put(2 * BLOCK + 6, 9)]).bytes())]);
     let said = "in: refused 33 2: a block's two check bytes are not those of its other bytes (block 2).
 What it means: the sheet was damaged on its way. Only the colouring can be salvaged, and this block is none of it.
 What to do: send it again.";
@@ -229,7 +162,7 @@ What to do: send it again.";
 /// A file that can't be read; and one without end, of which no more is read than a sheet can have.
 #[test]
 fn no_such_sheet() {
-    let folder = Folder::new("none", &[]);
+    let folder = folder("none", &[]);
     assert_eq!(folder.run(&["in", "out"]), Ended::without("in: No such file or directory (os error 2)"));
     assert_eq!(folder.run(&[".", "out"]), Ended::without(".: Is a directory (os error 21)"));
     let Ended(status, out, err) = folder.run(&["/dev/zero", "out"]);
@@ -241,11 +174,11 @@ fn no_such_sheet() {
 /// What is there already stays as it is: a file, a folder, the sheet itself, a link to it, and a link to nothing.
 #[test]
 fn a_name_that_is_taken() {
-    let folder = Folder::new("taken", &[("in", &spoiled()), ("file", b"kept")]);
-    fs::create_dir(folder.0.join("folder")).expect("a folder");
-    symlink("in", folder.0.join("link")).expect("a link");
-    symlink("nowhere", folder.0.join("broken")).expect("a link");
-    fs::hard_link(folder.0.join("in"), folder.0.join("same")).expect("another name");
+    let folder = folder("taken", &[("in", &spoiled()), ("file", b"kept")]);
+    fs::create_dir(folder.path.join("folder")).expect("a folder");
+    symlink("in", folder.path.join("link")).expect("a link");
+    symlink("nowhere", folder.path.join("broken")).expect("a link");
+    fs::hard_link(folder.path.join("in"), folder.path.join("same")).expect("another name");
     let before = folder.names();
     for name in ["file", "folder", "folder/", "folder/..", "in", "./in", "link", "broken", "same", ".", "/", "/dev/null"] {
         let said = "there is such a file or folder already, and it stays as it is. Name one that is not there.";
@@ -253,13 +186,13 @@ fn a_name_that_is_taken() {
     }
     assert_eq!(folder.names(), before);
     assert_eq!((folder.read("in"), folder.read("file")), (spoiled(), b"kept".to_vec()));
-    assert!(fs::read_link(folder.0.join("broken")).is_ok_and(|to| to == Path::new("nowhere")));
+    assert!(fs::read_link(folder.path.join("broken")).is_ok_and(|to| to == Path::new("nowhere")));
 }
 
 /// Folders that are not there, or that take no file, and names that no file can have.
 #[test]
 fn no_such_place() {
-    let folder = Folder::new("place", &[("in", &spoiled())]);
+    let folder = folder("place", &[("in", &spoiled())]);
     assert_eq!(folder.run(&["in", "no/out"]), Ended::without("no/out: No such file or directory (os error 2)"));
     assert_eq!(folder.run(&["in", "in/out"]), Ended::without("in/out: Not a directory (os error 20)"));
     assert_eq!(folder.run(&["in", "/proc/out"]), Ended::without("/proc/out: No such file or directory (os error 2)"));
@@ -276,8 +209,8 @@ fn no_such_place() {
 #[test]
 fn names_that_are_no_text() {
     let (from, to) = (OsStr::from_bytes(b"in-\xff"), OsStr::from_bytes(b"out-\xfe"));
-    let folder = Folder::new("no-text", &[]);
-    fs::write(folder.0.join(from), spoiled()).expect("a file");
+    let folder = folder("no-text", &[]);
+    fs::write(folder.path.join(from), spoiled()).expect("a file");
     let Ended(status, out, err) = Ended::of(folder.program().args([from, to]));
     assert_eq!((status, &err[..]), (0, ""));
     assert!(out.starts_with("in-\u{fffd}: 5 of 5") && out.contains("\nout-\u{fffd} is written"), "{out}");
@@ -286,7 +219,7 @@ fn names_that_are_no_text() {
 
 #[test]
 fn other_arguments() {
-    let folder = Folder::new("arguments", &[("in", &spoiled())]);
+    let folder = folder("arguments", &[("in", &spoiled())]);
     let Ended(status, usage, err) = folder.run(&["--help"]);
     assert_eq!((status, &err[..]), (0, ""));
     assert!(usage.starts_with("usage: salvage IN OUT\n"));
@@ -300,7 +233,7 @@ fn other_arguments() {
 /// Where what is lost can't be said, nothing is written.
 #[test]
 fn an_output_that_takes_nothing() {
-    let folder = Folder::new("closed", &[("in", &spoiled())]);
+    let folder = folder("closed", &[("in", &spoiled())]);
     let said = |why: &str| Ended::without(&format!("salvage: not all of the text could be written: {why}"));
     let (reader, writer) = std::io::pipe().expect("a pipe");
     drop(reader);
@@ -321,7 +254,7 @@ impl Folder {
 
 #[test]
 fn a_full_disk() {
-    let folder = Folder::new("full", &[("in", &spoiled())]);
+    let folder = folder("full", &[("in", &spoiled())]);
     for blocks in 0..5 {
         let ended = Ended::of(folder.program_with_room(blocks).args(["in", "out"]));
         assert_eq!(ended, Ended::without("out: File too large (os error 27)"));
@@ -335,8 +268,8 @@ fn a_full_disk() {
 #[test]
 fn a_last_line_that_is_not_taken() {
     let log = vec![b'\n'; 8 * BLOCK - LOST.len()];
-    let folder = Folder::new("last", &[("in", &spoiled()), ("log", &log)]);
-    let file = OpenOptions::new().append(true).open(folder.0.join("log")).expect("a file");
+    let folder = folder("last", &[("in", &spoiled()), ("log", &log)]);
+    let file = OpenOptions::new().append(true).open(folder.path.join("log")).expect("a file");
     let ended = Ended::with_output(folder.program_with_room(8).args(["in", "out"]), file);
     let said = "salvage: not all of the text could be written: File too large (os error 27)\nout is written.\n";
     assert_eq!(ended, Ended::with(0, "", said));
@@ -347,7 +280,7 @@ fn a_last_line_that_is_not_taken() {
 /// The name that the program first writes to is taken: it takes the next, and leaves what is there.
 #[test]
 fn another_file_of_its_kind() {
-    let folder = Folder::new("other", &[("in", &spoiled())]);
+    let folder = folder("other", &[("in", &spoiled())]);
     let ended = Ended::of(folder.program_after("echo kept > salvage-$$-0.tmp").args(["in", "out"]));
     assert_eq!(ended, Ended::with(0, &format!("{LOST}{WRITTEN}"), ""));
     let names = folder.names();

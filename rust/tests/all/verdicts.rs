@@ -8,6 +8,7 @@ use crate::sheets::{self, all_stored, files, reading, Change, Sheet};
 use std::collections::BTreeSet;
 use std::fs::OpenOptions;
 use std::process::Stdio;
+use std::time::Duration;
 
 #[derive(Clone, Debug)]
 struct Printed(Sheet);
@@ -68,15 +69,16 @@ fn stored_texts() {
 #[test]
 fn a_sheet_in_three_pieces() {
     let bytes = Sheet::a(&FIRST).bytes();
-    let output = run(&bytes, 3, Stdio::piped());
-    assert_eq!(String::from_utf8_lossy(&output.stdout), Verdicts::of(&bytes).text());
+    let pieces: Vec<&[u8]> = bytes.chunks(bytes.len().div_ceil(3)).collect();
+    let (text, left) = run("verdicts", &pieces, Duration::from_millis(100), Stdio::piped()).well();
+    assert_eq!((text, left), (Verdicts::of(&bytes).text(), vec![]));
 }
 
 #[test]
 fn text_that_cannot_be_written() {
     let full = OpenOptions::new().write(true).open("/dev/full").expect("a device that takes nothing");
-    let output = run(&Sheet::a(&FIRST).bytes(), 1, full.into());
-    assert_eq!(String::from_utf8_lossy(&output.stderr), "verdicts: the text could not be written\n");
+    let ended = run("verdicts", &[&Sheet::a(&FIRST).bytes()], Duration::ZERO, full);
+    assert_eq!(ended.err, "verdicts: the text could not be written\n");
 }
 
 #[test]

@@ -1,10 +1,11 @@
 //! Nanoseconds a move of the proved library and of the whole call in plain Rust, on the same plans and lists, by turns in one run,
-//! without flights and then with them; all that both leave is compared. Then the typed board beside the flat call, and the reading,
-//! the writing and the conversion of sheets.
+//! without flights and then with them; all that both leave is compared. Then the typed board beside the flat call, the reading, the
+//! writing and the conversion of sheets, and figures over many of them.
 //!
-//! `bench calls` prints the tables on calls alone, `bench typed` the board's.
+//! `bench calls` prints the tables on calls alone, `bench typed` the board's, `bench figures` that on figures.
 
 mod baseline;
+mod figures;
 mod flights;
 mod plain_sheet;
 mod plans;
@@ -139,10 +140,12 @@ fn main() {
     match std::env::args().nth(1).as_deref() {
         Some("typed") => typed::print_all(),
         Some("calls") => print_calls(),
+        Some("figures") => figures::print_all(),
         _ => {
             print_calls();
             typed::print_all();
             sheets::print_all();
+            figures::print_all();
         }
     }
 }

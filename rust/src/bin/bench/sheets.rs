@@ -11,7 +11,7 @@ use std::time::Instant;
 
 const RUNS: usize = 400;
 const LARGEST: &[u8] = include_bytes!("../../../../sheets/largest.sheet");
-const LARGEST_SECOND: &[u8] = include_bytes!("../../../../sheets/largest-second.sheet");
+pub const LARGEST_SECOND: &[u8] = include_bytes!("../../../../sheets/largest-second.sheet");
 
 /// What reading leaves: the numbers of the head, and the lists.
 #[derive(PartialEq)]

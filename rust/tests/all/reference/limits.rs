@@ -23,3 +23,6 @@ pub const CALL_KINDS: u64 = 5;
 pub const BLOCK: usize = 512;
 pub const PREFIX: usize = 10;
 pub const PAYLOAD: usize = 500;
+
+/// The sheets that figures are over.
+pub const SHEETS: usize = 1_000;

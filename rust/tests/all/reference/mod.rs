@@ -4,6 +4,7 @@
 mod blocks;
 mod call;
 mod converting;
+mod figures;
 mod form;
 mod limits;
 mod meaning;
@@ -15,6 +16,7 @@ mod verdicts;
 pub use blocks::fletcher;
 pub use call::call;
 pub use converting::{to_first, to_second};
+pub use figures::Figures;
 pub use form::{Form, FIRST, FORMS, SECOND};
 pub use limits::*;
 pub use meaning::{distance, Meaning};

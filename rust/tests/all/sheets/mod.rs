@@ -40,6 +40,13 @@ impl Sheet {
         Sheet::of(form, if *form == FIRST { sheet_a() } else { sheet_a_with_both() })
     }
 
+    /// A first sheet of one region, as small as there is one, with this total.
+    pub fn worth(total: u64) -> Self {
+        let (regions, sectors, workloads, outside, colouring) = (1, 1, vec![total], vec![0], vec![1]);
+        let (edges, counts, visits, constraints) = (vec![], vec![], vec![], vec![4, 1, 0, 1]);
+        Sheet::of(&FIRST, Numbers { regions, sectors, workloads, outside, edges, counts, visits, constraints, colouring })
+    }
+
     /// A sheet of either form; some of the second form have nothing that the first can't hold.
     pub fn random(random: &mut Random) -> Self {
         let form = random.pick(&FORMS);
