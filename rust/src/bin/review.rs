@@ -13,7 +13,7 @@ use std::ffi::OsString;
 use std::io::Write;
 use std::path::{Path, PathBuf};
 use std::process::{Command, ExitCode, Output, Stdio};
-use telling::{about, complain, read, say};
+use telling::{about, ended, read, say};
 
 const USAGE: &str = "usage: review [--figures PROGRAM] FILE...
 
@@ -28,19 +28,12 @@ sheet, or `figures` is not there, or it doesn't count what the library does.
 fn main() -> ExitCode {
     let arguments: Vec<OsString> = std::env::args_os().skip(1).collect();
     let option = |word: &OsString| word.as_encoded_bytes().starts_with(b"-");
-    let done = match &arguments[..] {
+    ended(match &arguments[..] {
         [one] if one == "--help" || one == "-h" => say(USAGE),
         [one, program, files @ ..] if one == "--figures" && !files.is_empty() => review(Some(Path::new(program)), files),
         [one, ..] if !option(one) => review(None, &arguments),
         _ => Err(USAGE.trim_end().to_string()),
-    };
-    match done {
-        Ok(()) => ExitCode::SUCCESS,
-        Err(why) => {
-            complain(&why);
-            ExitCode::from(2)
-        }
-    }
+    })
 }
 
 /// Shows the figures over these files, or tells why not.
@@ -116,11 +109,11 @@ fn printed(program: &Path, input: &[u8]) -> Result<String, String> {
     let started = Command::new(program).stdin(piped()).stdout(piped()).stderr(piped()).spawn();
     let mut running = started.map_err(|error| error.to_string())?;
     let taking = running.stdin.take();
-    let ended = std::thread::scope(|scope| {
+    let over = std::thread::scope(|scope| {
         scope.spawn(move || taking.map(|mut taking| taking.write_all(input)));
         running.wait_with_output()
     });
-    let Output { status, stdout, stderr } = ended.map_err(|error| error.to_string())?;
+    let Output { status, stdout, stderr } = over.map_err(|error| error.to_string())?;
     let said = String::from_utf8_lossy(&stderr);
     match (status.success(), said.trim_end()) {
         (true, "") => {}

@@ -19,7 +19,7 @@ use std::fs::{self, File};
 use std::io::{self, ErrorKind, Write};
 use std::path::{Path, PathBuf};
 use std::process::ExitCode;
-use telling::{about, complain, name, read, say};
+use telling::{about, complain, ended, name, read, say};
 
 const USAGE: &str = "usage: salvage IN OUT
 
@@ -35,18 +35,11 @@ const THERE: &str = "there is such a file or folder already, and it stays as it 
 
 fn main() -> ExitCode {
     let arguments: Vec<OsString> = std::env::args_os().skip(1).collect();
-    let done = match &arguments[..] {
+    ended(match &arguments[..] {
         [one] if one == "--help" || one == "-h" => say(USAGE),
         [from, to] => salvage(Path::new(from), Path::new(to)).map_err(|why| format!("{why}\nNothing was written.")),
         _ => Err(USAGE.trim_end().to_string()),
-    };
-    match done {
-        Ok(()) => ExitCode::SUCCESS,
-        Err(why) => {
-            complain(&why);
-            ExitCode::from(2)
-        }
-    }
+    })
 }
 
 /// Salvages one file to another, or tells why not.

@@ -5,6 +5,7 @@ use std::fmt::Display;
 use std::fs::File;
 use std::io::{self, Read, Write};
 use std::path::Path;
+use std::process::ExitCode;
 
 /// The bytes of a file, as far as a sheet can go and one more.
 pub fn read(path: &Path) -> io::Result<Vec<u8>> {
@@ -33,4 +34,15 @@ pub fn say(text: &str) -> Result<(), String> {
 /// Prints to standard error, as far as it takes it.
 pub fn complain(text: &str) {
     let _ = writeln!(io::stderr(), "{text}");
+}
+
+/// How a program ends: with 0, or with 2 once it was told why.
+pub fn ended(done: Result<(), String>) -> ExitCode {
+    match done {
+        Ok(()) => ExitCode::SUCCESS,
+        Err(why) => {
+            complain(&why);
+            ExitCode::from(2)
+        }
+    }
 }
