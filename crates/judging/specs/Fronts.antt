@@ -59,3 +59,11 @@ module _ {sheet cs vs : List ℕ} {r : Judged} {cs′ vs′ : List ℕ} (h : Lea
   -- and the verdicts on them
   pub verdicts-front : take (verdictLength * r .constraints) vs′ ≡ judgement sheet .verdicts
   verdicts-front = rw (h .verdicts-left, count-left) (take-at (judgement sheet .verdicts) _ _ (sized sheet .verdicts-long))
+
+  -- there are four numbers for each constraint
+  pub constraints-counted : length (take (constraintLength * r .constraints) cs′) ≡ constraintLength * r .constraints
+  constraints-counted = omega (arith, ap length constraints-front, sized sheet .constraints-long, count-left)
+
+  -- and two for each verdict
+  pub verdicts-counted : length (take (verdictLength * r .constraints) vs′) ≡ verdictLength * r .constraints
+  verdicts-counted = omega (arith, ap length verdicts-front, sized sheet .verdicts-long, count-left)

@@ -18,7 +18,7 @@ use Rattle.review.specs.Next.{next, Taken, review-next}
 
 -- the sheets before a place are read, and the figures are those over them
 pub record SoFar (place : ℕ) (r : Review) : Type 0 where
-  -- the bytes that were read
+  -- bytes: in the program's loop those that were read
   pub input : List ℕ
   -- the sheets in them
   pub sheets : List (List ℕ)

@@ -1,18 +1,17 @@
 -- The fronts of the two lists are the constraints and the verdicts of the judgement, so that the text made of them is the sheet's.
--- the constraints are few
 use Prim.Native.Nat.{_*_, _≤_}
 use native.Mathlib.Omega.{arith}
-use mathlib.Core.Path.{_≡_, sym}
+use mathlib.Core.Path.{sym}
 use borrow.Author.Needs.{needs}
-use lib.ListN.{length, take}
-use lib.Seq.{length-take-le}
+use lib.ListN.{length}
 use Rattle.meaning.specs.Plan.{constraintLength, mostConstraints}
 use Rattle.meaning.specs.Moves.{verdictLength}
-use Rattle.judging.specs.Fronts.{few-left}
+use Rattle.judging.specs.Fronts.{few-left, constraints-counted, verdicts-counted}
 use Rattle.judgement.specs.Printing.{text-refused, text-judged, promise-shown}
 use Rattle.judgement.proofs.put_judged.Statement.{statement}
 use Rattle.judgement.proofs.put_judged.Tie as tie
 
+-- the constraints are few
 few : (c : tie.After-judge-sheet) → c .judge-sheet .result .constraints ≤ mostConstraints
 few c = few-left (c .judge-sheet .ensures)
 
@@ -20,15 +19,9 @@ few c = few-left (c .judge-sheet .ensures)
 constraints-room : (c : tie.After-judge-sheet) → constraintLength * c .judge-sheet .result .constraints ≤ length (c .judge-sheet .last .1 .0)
 constraints-room c = omega (arith, few c, c .judge-sheet .kept .1 .0)
 
-constraints-long : (c : tie.After-judge-sheet) → length (take (constraintLength * c .judge-sheet .result .constraints) (c .judge-sheet .last .1 .0)) ≡ constraintLength * c .judge-sheet .result .constraints
-constraints-long c = length-take-le _ _ (constraints-room c)
-
 -- and so are the verdicts on them
 verdicts-room : (c : tie.After-judge-sheet) → verdictLength * c .judge-sheet .result .constraints ≤ length (c .judge-sheet .last .1 .1 .0)
 verdicts-room c = omega (arith, few c, c .judge-sheet .kept .1 .1 .0)
-
-verdicts-long : (c : tie.After-judge-sheet) → length (take (verdictLength * c .judge-sheet .result .constraints) (c .judge-sheet .last .1 .1 .0)) ≡ verdictLength * c .judge-sheet .result .constraints
-verdicts-long c = length-take-le _ _ (verdicts-room c)
 
 slice-aggregate-judge-sheet : tie.Need-slice-aggregate-judge-sheet
 slice-aggregate-judge-sheet c = search needs
@@ -60,16 +53,21 @@ array-share-prefix-constraints : tie.Need-array-share-prefix-constraints
 array-share-prefix-constraints c = constraints-room (c .before .before .before .before)
 
 slice-aggregate-put-verdicts : tie.Need-slice-aggregate-put-verdicts
-slice-aggregate-put-verdicts c = sym (constraints-long (c .before .before .before .before .before))
+slice-aggregate-put-verdicts c = sym (constraints-counted (c .before .before .before .before .before .judge-sheet .ensures))
 
 array-share-prefix-verdicts : tie.Need-array-share-prefix-verdicts
 array-share-prefix-verdicts c = verdicts-room (c .before .before .before .before .before)
 
 slice-aggregate-put-verdicts-2 : tie.Need-slice-aggregate-put-verdicts-2
-slice-aggregate-put-verdicts-2 c = sym (verdicts-long (c .before .before .before .before .before .before))
+slice-aggregate-put-verdicts-2 c = sym (verdicts-counted (c .before .before .before .before .before .before .judge-sheet .ensures))
 
 put-verdicts-requires : tie.Need-put-verdicts-requires
-put-verdicts-requires c κs = (omega (arith, constraints-long (c .before .before .before .before .before .before .before), few (c .before .before .before .before .before .before .before)), (omega (arith, constraints-long (c .before .before .before .before .before .before .before), verdicts-long (c .before .before .before .before .before .before .before)), c .before .before .before .before .before .before .before .before .before .before .before .before .pre))
+put-verdicts-requires c κs =
+    let judged = c .before .before .before .before .before .before .before in
+    let left = judged .judge-sheet .ensures in (
+      omega (arith, constraints-counted left, few-left left),
+      (omega (arith, constraints-counted left, verdicts-counted left), c .before .before .before .before .before .before .before .before .before .before .before .before .pre),
+    )
 
 same-length-2 : tie.Need-same-length-2
 same-length-2 c = search needs

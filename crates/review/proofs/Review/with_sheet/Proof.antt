@@ -6,9 +6,9 @@ use borrow.Author.Needs.{needs}
 use lib.ListN.{length}
 use Rattle.meaning.specs.Plan.{constraintLength}
 use Rattle.meaning.specs.Moves.{verdictLength}
-use Rattle.judging.specs.Fronts.{few-left}
+use Rattle.judging.specs.Fronts.{few-left, constraints-counted, verdicts-counted}
 use Rattle.review.specs.Bounds.{sound-few, refused-few, zero-few, failed-few}
-use Rattle.review.specs.Judging.{constraints-long, verdicts-long, judged-refused, judged-sound}
+use Rattle.review.specs.Judging.{judged-refused, judged-sound}
 use Rattle.review.proofs.Review.with_sheet.Statement.{statement}
 use Rattle.review.proofs.Review.with_sheet.Tie as tie
 
@@ -50,20 +50,20 @@ array-share-prefix-constraints : tie.Need-array-share-prefix-constraints
 array-share-prefix-constraints c = constraints-room (c .before .before .before .before .before)
 
 slice-aggregate-with-failed : tie.Need-slice-aggregate-with-failed
-slice-aggregate-with-failed c = sym (constraints-long (c .before .before .before .before .before .before .judge-sheet .ensures))
+slice-aggregate-with-failed c = sym (constraints-counted (c .before .before .before .before .before .before .judge-sheet .ensures))
 
 array-share-prefix-verdicts : tie.Need-array-share-prefix-verdicts
 array-share-prefix-verdicts c = verdicts-room (c .before .before .before .before .before .before)
 
 slice-aggregate-with-failed-2 : tie.Need-slice-aggregate-with-failed-2
-slice-aggregate-with-failed-2 c = sym (verdicts-long (c .before .before .before .before .before .before .before .judge-sheet .ensures))
+slice-aggregate-with-failed-2 c = sym (verdicts-counted (c .before .before .before .before .before .before .before .judge-sheet .ensures))
 
 with-failed-requires : tie.Need-with-failed-requires
 with-failed-requires c κs =
     let judged = c .before .before .before .before .before .before .before in
     let h = judged .judge-sheet .ensures in
     let pre = judged .before .before .before .before .pre in
-    (omega (arith, constraints-long h, few-left h), (omega (arith, constraints-long h, verdicts-long h), failed-few (pre .0) (pre .1)))
+    (omega (arith, constraints-counted h, few-left h), (omega (arith, constraints-counted h, verdicts-counted h), failed-few (pre .0) (pre .1)))
 
 with-sound-requires : tie.Need-with-sound-requires
 with-sound-requires c κs =
