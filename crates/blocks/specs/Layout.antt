@@ -172,6 +172,8 @@ module _ (letters : List ℕ) (four : length letters ≡ letters_length) where
         length-written (n + blocks_in l) ls xss laid.1 fits.1,
         length-append own (all_dues ls),
       )
+  length-written n [] (xs ∷ xss) laid fits = elim fits [ ]
+  length-written n (l ∷ ls) [] laid fits = elim fits [ ]
 
   -- none of them is refused, and after n other blocks they read as these numbers
   pub read-written : (n : ℕ) (ls : List Layout) (xss : List (List ℕ)) (front : List ℕ) → Every Laid ls → AllFit ls xss → length front ≡ block_length * n
@@ -193,6 +195,8 @@ module _ (letters : List ℕ) (four : length letters ≡ letters_length) where
             (rw (drop_at front (blocks ++ more) (block_length * n) k, r.1) (unpack-pack ws xs fits.0))
             (rw (← append_assoc front blocks more) ih.1),
       )
+  read-written n [] (xs ∷ xss) front laid fits k = elim fits [ ]
+  read-written n (l ∷ ls) [] front laid fits k = elim fits [ ]
 
 -- ---- the whole sheet
 

@@ -183,6 +183,8 @@ module _ (f : ℕ → ℕ) (kind : ℕ) where
   pack_ones : (n : ℕ) (xs : List ℕ) → Fits (rep n (1 ∷ [])) xs → pack (rep n (1 ∷ [])) xs ≡ xs
   pack_ones zero [] h = refl
   pack_ones (suc n) (x ∷ xs) h = let e = h.0 in ap₂ (λ (y : ℕ) (l : List ℕ). y ∷ l) (omega arith) (pack_ones n xs h.1)
+  pack_ones zero (x ∷ xs) h = elim h [ ]
+  pack_ones (suc n) [] h = elim h [ ]
 
   pack_mapped : (l : Layout) (xs : List ℕ) → Single kind l → Fits (rep l.count l.widths) xs → Fits (rep l.count l.widths) (map (on_kind f kind l.kind) xs)
       → pack (rep l.count l.widths) (map (on_kind f kind l.kind) xs) ≡ map (on_kind f kind l.kind) (pack (rep l.count l.widths) xs)
@@ -239,3 +241,5 @@ module _ (f : ℕ → ℕ) (kind : ℕ) where
         let long = length-pack ws xs (omega (arith, length_fits ws xs h.0)) ∙ used_own laid.0 in
         let later = written_mapped (n + blocks_in l) ls xss laid.1 s.1 h.1 k.1 in
         rw (pack_mapped l xs s.0 h.0 k.0) (sheet_mapped n l.kind l.size (blocks_in l) (section_of l).bytes (pack ws xs) (all_dues ls) _ _ laid.0.high long later)
+    written_mapped n [] (xs ∷ xss) laid s h k = elim h [ ]
+    written_mapped n (l ∷ ls) [] laid s h k = elim h [ ]

@@ -32,7 +32,7 @@ pub const MOST_PAYLOAD: usize = 500;
 pub const CHECKED_LENGTH: usize = HEADER_LENGTH + MOST_PAYLOAD;
 
 // The blocks of one kind: how many bytes a full one holds, and how many there are in all.
-#[derive(Drop)]
+#[derive(Clone, Copy)]
 pub struct Section {
     pub kind: u8,
     pub size: usize,
@@ -40,7 +40,7 @@ pub struct Section {
 }
 
 // What is due of a block: its kind, and how many bytes of its payload are used.
-#[derive(Drop)]
+#[derive(Clone, Copy)]
 pub struct Due {
     pub kind: u8,
     pub used: usize,

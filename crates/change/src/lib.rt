@@ -10,14 +10,14 @@ ghost use Rattle.change.specs.Small.{AtMost, Fits, Swings, Shifting, Summable, A
 use judge::Figures;
 
 // Of the two sectors that a change concerns, the one that a region leaves and the one that it comes to, a number each.
-#[derive(Drop)]
+#[derive(Clone, Copy)]
 pub struct Pair {
     pub old: u64,
     pub new: u64,
 }
 
 // The two sectors' components and workloads, and what they pay for the constraints of kind 4.
-#[derive(Drop)]
+#[derive(Clone, Copy)]
 pub struct Sides {
     pub components: Pair,
     pub workloads: Pair,
@@ -25,14 +25,14 @@ pub struct Sides {
 }
 
 // What a figure gains and loses.
-#[derive(Drop)]
+#[derive(Clone, Copy)]
 pub struct Swing {
     pub gained: u64,
     pub lost: u64,
 }
 
 // What changes: the two sectors before and after, the border, and what the constraints of kind 5 add to the total.
-#[derive(Drop)]
+#[derive(Clone, Copy)]
 pub struct Change {
     pub before: Sides,
     pub after: Sides,

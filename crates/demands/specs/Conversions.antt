@@ -3,7 +3,7 @@
 use Rattle.std.specs.Prelude.{ℕ, zero, suc, ◌/◌, ◌≤◌, ◌≡◌, refl, ◌≢◌, ◌⊎◌, ◌↔◌, List, [], ◌∷◌, ◌++◌, true, not, leb, length, get_or}
 use Rattle.std.proofs.Math.Decide.{ℕ_discrete}
 use Rattle.std.proofs.Common.{arith, sym, ap, subst, ◌∙◌, inl, inr, ⊎_elim, append_assoc}
-use Rattle.std.proofs.Math.Logic.{Iff·trans}
+use Rattle.std.proofs.Math.Logic.Iff
 use borrow.Author.Tests.{eq-eqb, ne_eqb, not-false}
 use Rattle.lists.specs.Sums.{In}
 use Rattle.meaning.specs.Plan.{constraint_length, constraint_at}
@@ -16,7 +16,7 @@ use Rattle.writing.specs.Promise.{sheet_bytes, Outcome, refused_answer, left}
 use Rattle.conversion.specs.Promise.{all_zero, kind_right, carries, last_rows, convert_refusal, outcome, Promise, is_outcome}
 use Rattle.demands.specs.Tables.{Due}
 use Rattle.demands.specs.Rules.{Each}
-use Rattle.demands.specs.RuleLaws.{at_most, equal, one_of, both, whole_passes, each_passes}
+use Rattle.demands.specs.RuleLaws.{at_most_lem, equal, one_of, both, whole_passes, each_passes}
 use Rattle.demands.specs.Parts.{Part, whole_part, AllParts, Refused, Listed, Never, named_whole, broken-whole, listed_append, refused_listed, parts_none, none-refused, never_append, whole-due, row-refused}
 use Rattle.demands.specs.SheetRules.{BytesFit, sheet_parts, NoSheetCode, SheetCodes}
 use Rattle.demands.specs.SheetNames.{sheet_range}
@@ -45,7 +45,7 @@ convert_parts from to sheet lent = sheet_parts from sheet ++ last_parts to (cont
 -- the test that all are 0
 zeros : (xs : List ℕ) → all_zero xs ≡ true ↔ Each (length xs) (λ j. get_or xs j 0 ≡ 0)
 zeros [] = (λ e j h. absurd (omega arith), λ a. refl)
-zeros (x ∷ xs) = Iff·trans (both (equal x 0) (zeros xs)) (λ p. each p, λ a. (a 0 (omega arith), λ j h. a (suc j) (omega arith)))
+zeros (x ∷ xs) = Iff.trans (both (equal x 0) (zeros xs)) (λ p. each p, λ a. (a 0 (omega arith), λ j h. a (suc j) (omega arith)))
   where
     each : (x ≡ 0) × Each (length xs) (λ j. get_or xs j 0 ≡ 0) → Each (length (x ∷ xs)) (λ j. get_or (x ∷ xs) j 0 ≡ 0)
     each p zero h = p.0
@@ -66,7 +66,7 @@ last-refused : (to : Form) (k : Contents) (lent : List ℕ) → Refused (last_pa
 unfolding refusal
 last-refused to k lent =
     let carrying = whole 41 (carries to k) in
-    row-refused (whole 40 (leb (sheet_bytes to (carried to k)) (length lent))) (carrying ∷ []) (whole_part 41 (Carries to k) ∷ []) (λ e. omega arith) (whole_passes 40 (at_most (sheet_bytes to (carried to k)) (length lent)))
+    row-refused (whole 40 (leb (sheet_bytes to (carried to k)) (length lent))) (carrying ∷ []) (whole_part 41 (Carries to k) ∷ []) (λ e. omega arith) (whole_passes 40 (at_most_lem (sheet_bytes to (carried to k)) (length lent)))
     (λ _. row-refused carrying [] [] (λ e. omega arith) (whole_passes 41 (carries_fits to k)) (λ _. refl))
 
 -- all of them
@@ -96,6 +96,7 @@ module _ {from to : Form} {sheet lent : List ℕ} {o : Outcome} (p : Promise fro
   last_code : Listed (last_parts to (contents_in from sheet) lent) (answered o) → NoSheetCode o.answer.code
   last_code (inl m) h = omega (arith, named_whole m)
   last_code (inr (inl m)) h = omega (arith, named_whole m)
+  last_code (inr (inr x3)) h = elim x3 [ ]
 
   -- code 0 is given exactly when all that is asked holds
   pub code_0 : o.answer.code ≡ 0 ↔ AllParts (convert_parts from to sheet lent)
@@ -119,6 +120,7 @@ module _ {from to : Form} {sheet lent : List ℕ} {o : Outcome} (p : Promise fro
       last : Listed (last_parts to (contents_in from sheet) lent) (answered o) → (o.answer.code ≡ 40) ⊎ (o.answer.code ≡ 41)
       last (inl m) = inl (named_whole m)
       last (inr (inl m)) = inr (named_whole m)
+      last (inr (inr x'')) = elim x'' [ ]
 
   -- codes 31 to 38 are given as `SheetCodes` says, of the sheet as one of the old form: with other letters, 32
   pub codes_31_38 : SheetCodes from sheet (answered o)
@@ -147,7 +149,7 @@ module _ {from to : Form} {sheet lent : List ℕ} {o : Outcome} (p : Promise fro
   -- a refused converting changes nothing, and all it answers besides code and place is 0
   pub refused_converting : o.answer.code ≢ 0 → o ≡ left (refused_answer (answered o)) lent
   unfolding outcome
-  refused_converting ne = is_outcome p ∙ rw (as_refused, ne_eqb _ 0 (λ e. ne (ap (λ (r : Refusal). r.code) as_refused ∙ e)))
+  refused_converting ne = is_outcome p ∙ rw (ne_eqb _ 0 (λ e. ne (ap (λ (r : Refusal). r.code) as_refused ∙ e))) (ap (λ (r : Refusal). left (refused_answer r) lent) (sym as_refused))
 
 module _ {to : Form} {sheet lent : List ℕ} {o : Outcome} (p : Promise First to sheet lent o) where
   -- of a first sheet 37 never names 13 or 14

@@ -74,6 +74,8 @@ moves_append P (kind ∷ a ∷ b ∷ xs) ys w =
     moves_cons P kind a b (xs ++ ys)
     ∙ ap (λ l. move_of P.R P.S kind a b ∷ l) (moves_append P xs ys w)
     ∙ rw (moves_cons P kind a b xs)
+moves_append P (kind ∷ []) ys w = elim w [ ]
+moves_append P (kind ∷ (a ∷ [])) ys w = elim w [ ]
 
 -- ---- the moves
 

@@ -90,6 +90,7 @@ named_whole {c = c} m = ap (λ (f : Refusal). f.code) m.names ∙ go m.among
   where
     go : {d : ℕ} → (d ≡ c) ⊎ ⊥ → d ≡ c
     go (inl e) = e
+    go {d = d} (inr x') = elim x' [ ]
 
 -- so has what it is broken with
 pub broken-whole : {r : Refusal} {c : ℕ} {A : Type 0} → Broken (whole_part c A) r → r.code ≡ c

@@ -6,11 +6,11 @@ use Rattle.lists.specs.Sums.{sum}
 use Rattle.meaning.specs.Plan.{edge_length, visit_length, constraint_length, most_regions, most_sectors, most_workload, most_edges, most_area, most_flights, most_visits, most_kind, most_constraints, most_moves}
 use Rattle.meaning.specs.Moves.{move_length, row_length, verdict_length}
 use Rattle.refusals.specs.declared.Refusal.{Refusal}
-use Rattle.scans.specs.Items.{atMost, edge_right, count_right, flight_right, constraint_right, sector_right}
+use Rattle.scans.specs.Items.{at_most, edge_right, count_right, flight_right, constraint_right, sector_right}
 use Rattle.refusals.specs.Table.{Row, refusal, plan_table, room_table, Given, call_table}
 use Rattle.demands.specs.Tables.{All, before, rule_of, absent, once, in_order, Stand, group_of, Due, due, Rule}
 use Rattle.demands.specs.Rules.{RegionsFit, SectorsFit, WorkloadsFit, OutsideFits, EdgeCountFits, EdgesFit, CountsFit, VisitsFit, ConstraintCountFits, ConstraintsFit, ColouringFits, plan_rules, room_rules, WorkloadPlace, OutsidePlace, EdgePlace, FlightPlace, ConstraintPlace, SectorPlace}
-use Rattle.demands.specs.RuleLaws.{at-most, equal, one_of, both, some_records, edge_rules, flight_rules, constraint_rules, whole_passes, each_passes, alone, two, four, ◌then◌, no_place, each-place, list_place, lists_place}
+use Rattle.demands.specs.RuleLaws.{at_most_lem, equal, one_of, both, some_records, edge_rules, flight_rules, constraint_rules, whole_passes, each_passes, alone, two, four, ◌then◌, no_place, each-place, list_place, lists_place}
 
 -- ---- the table in groups
 
@@ -52,9 +52,9 @@ pub room_stand : (g : Given) → Stand (room_groups g) (room_rules g)
 unfolding room_table
 room_stand g =
     alone (whole_passes 9 (some_records move_length most_moves g.moves))
-    then alone (whole_passes 10 (at-most (row_length * (length g.moves / move_length)) g.rows))
-    then alone (whole_passes 11 (at-most (verdict_length * (length g.constraints / constraint_length)) g.verdicts))
-    then alone (whole_passes 12 (at-most (g.R + 2 * g.S + 1) g.work))
+    then alone (whole_passes 10 (at_most_lem (row_length * (length g.moves / move_length)) g.rows))
+    then alone (whole_passes 11 (at_most_lem (verdict_length * (length g.constraints / constraint_length)) g.verdicts))
+    then alone (whole_passes 12 (at_most_lem (g.R + 2 * g.S + 1) g.work))
     then tt
 
 module _ (kinds : ℕ) (g : Given) (gs : List (List Row)) (As : List Rule) (more : Stand gs As) where
@@ -64,12 +64,12 @@ module _ (kinds : ℕ) (g : Given) (gs : List (List Row)) (As : List Rule) (more
   plan_stand =
       alone (whole_passes 1 (one_of most_regions g.R))
       then alone (whole_passes 2 (one_of most_sectors g.S))
-      then two (whole_passes 3 (equal (length g.workloads) g.R)) (each_passes (atMost most_workload g.workloads) 3 (length g.workloads) (λ k. at-most _ _))
-      then two (whole_passes 14 (equal (length g.outside) g.R)) (each_passes (atMost most_area g.outside) 14 (length g.outside) (λ k. at-most _ _))
+      then two (whole_passes 3 (equal (length g.workloads) g.R)) (each_passes (at_most most_workload g.workloads) 3 (length g.workloads) (λ k. at_most_lem _ _))
+      then two (whole_passes 14 (equal (length g.outside) g.R)) (each_passes (at_most most_area g.outside) 14 (length g.outside) (λ k. at_most_lem _ _))
       then alone (whole_passes 4 (some_records edge_length most_edges g.edges))
       then alone (each_passes (edge_right g.R g.edges) 5 (length g.edges / edge_length) (edge_rules g.R g.edges))
       then four
-      (whole_passes 13 (at-most (length g.counts) most_flights))
+      (whole_passes 13 (at_most_lem (length g.counts) most_flights))
       (each_passes (count_right g.counts) 13 (length g.counts) (λ k. one_of most_visits _))
       (whole_passes 13 (equal (length g.visits) (visit_length * sum g.counts (λ n. n))))
       (each_passes (flight_right g.R g.counts g.visits) 13 (length g.counts) (λ k. flight_rules g.R _))
@@ -104,13 +104,13 @@ module _ (kinds : ℕ) (g : Given) (gs : List (List Row)) (As : List Rule) (more
   pub due_3 : T (absent 3 As) → Due given 3 (All (before 3 (plan_rules kinds g))) (WorkloadsFit g) (WorkloadPlace g)
   unfolding plan_table
   due_3 t =
-      due_plan 3 (omega arith) t (list_place 3 (length g.workloads) (atMost most_workload g.workloads) (λ k. at-most _ _) _ (equal (length g.workloads) g.R))
+      due_plan 3 (omega arith) t (list_place 3 (length g.workloads) (at_most most_workload g.workloads) (λ k. at_most_lem _ _) _ (equal (length g.workloads) g.R))
 
   -- code 14, on the outside areas
   pub due_14 : T (absent 14 As) → Due given 14 (All (before 14 (plan_rules kinds g))) (OutsideFits g) (OutsidePlace g)
   unfolding plan_table
   due_14 t =
-      due_plan 14 (omega arith) t (list_place 14 (length g.outside) (atMost most_area g.outside) (λ k. at-most _ _) _ (equal (length g.outside) g.R))
+      due_plan 14 (omega arith) t (list_place 14 (length g.outside) (at_most most_area g.outside) (λ k. at_most_lem _ _) _ (equal (length g.outside) g.R))
 
   -- code 4, on the number of edges
   pub due_4 : T (absent 4 As) → Due given 4 (All (before 4 (plan_rules kinds g))) (EdgeCountFits g) (λ place. place ≡ 0)
@@ -128,7 +128,7 @@ module _ (kinds : ℕ) (g : Given) (gs : List (List Row)) (As : List Rule) (more
   due_13 t =
       due_plan 13 (omega arith) t
       (lists_place 13 (length g.counts) (count_right g.counts) (flight_right g.R g.counts g.visits) (λ k. one_of most_visits _) (λ k. flight_rules g.R _) _ _
-      (at-most (length g.counts) most_flights)
+      (at_most_lem (length g.counts) most_flights)
       (equal (length g.visits) (visit_length * sum g.counts (λ n. n))))
 
   -- code 6, on the number of constraints

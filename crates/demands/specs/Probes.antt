@@ -83,5 +83,5 @@ module _ {i j : Input} {o q : Outcome} (p : Promise i o) (z : o.answer.code ≡ 
   unfolding row
   probe_row-delta =
       ap (λ r. r.delta) (row_of_move p z k h)
-      ∙ rw (first, second, on, same_plan s, delta_probe (plan_in j) (colouring_at j l) (first_at j l) (second_at j l) kinds)
+      ∙ rw (first, second, on, same_plan s, s.R, s.S, delta_probe (plan_in j) (colouring_at j l) (first_at j l) (second_at j l) kinds)
       (sym (ap (λ r. r.delta) (row_of_move p₁ z₁ l h₁)))

@@ -12,7 +12,7 @@ use Rattle.form.specs.Form.{form_in, head_by}
 use Rattle.reading.specs.Promise.{Input, room_right, read_refusal, Outcome, refused_by, held, outcome, Promise, is_outcome}
 use Rattle.reading.specs.Handing.{Room}
 use Rattle.demands.specs.Tables.{Due}
-use Rattle.demands.specs.RuleLaws.{at_most, both, whole_passes}
+use Rattle.demands.specs.RuleLaws.{at_most_lem, both, whole_passes}
 use Rattle.demands.specs.Parts.{Part, whole_part, AllParts, Refused, Listed, named_whole, listed_append, refused_listed, parts_none, none-refused, whole-due, row-refused}
 use Rattle.demands.specs.SheetRules.{sheet_parts, NoSheetCode, SheetCodes}
 use Rattle.demands.specs.SheetNames.{sheet_range}
@@ -41,10 +41,10 @@ room_fits i =
     both
     (both
     (both
-    (both (both (both (at_most h.regions (length i.workloads)) (at_most h.regions (length i.outside))) (at_most (edge_length * h.edges) (length i.edges))) (at_most h.flights (length i.counts)))
-    (at_most (visit_length * h.visits) (length i.visits)))
-    (at_most (constraint_length * h.constraints) (length i.constraints)))
-    (at_most h.regions (length i.colouring)) in (
+    (both (both (both (at_most_lem h.regions (length i.workloads)) (at_most_lem h.regions (length i.outside))) (at_most_lem (edge_length * h.edges) (length i.edges))) (at_most_lem h.flights (length i.counts)))
+    (at_most_lem (visit_length * h.visits) (length i.visits)))
+    (at_most_lem (constraint_length * h.constraints) (length i.constraints)))
+    (at_most_lem h.regions (length i.colouring)) in (
       λ t.
           let p = test.0 t in
           record {
@@ -85,6 +85,7 @@ module _ {i : Input} {o : Outcome} (p : Promise i o) where
   -- what follows the sheet has 39
   last_code : Listed (whole_part 39 (RoomFits i) ∷ []) (answered o) → NoSheetCode o.answer.code
   last_code (inl m) h = omega (arith, named_whole m)
+  last_code (inr x'') h = elim x'' [ ]
 
   -- code 0 is given exactly when all that is asked holds
   pub code_0 : o.answer.code ≡ 0 ↔ AllParts (read_parts i)
@@ -107,6 +108,7 @@ module _ {i : Input} {o : Outcome} (p : Promise i o) where
 
       room : Listed (whole_part 39 (RoomFits i) ∷ []) (answered o) → (31 ≤ o.answer.code) × (o.answer.code ≤ 39)
       room (inl m) = (omega (arith, named_whole m), omega (arith, named_whole m))
+      room (inr x') = elim x' [ ]
 
   -- codes 31 to 38 are given as `SheetCodes` says, of the sheet as the one that its letters say it is
   pub codes_31_38 : SheetCodes (form_in i.sheet) i.sheet (answered o)

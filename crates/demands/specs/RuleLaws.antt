@@ -6,7 +6,8 @@ use Rattle.std.proofs.Common.{arith, sym, ◌∙◌, ⊎_elim, leb-true, le-leb,
 use Rattle.std.proofs.Math.Decide.{ℕ_discrete}
 use Rattle.std.specs.Prelude.{◌≡◌, ◌≢◌, ◌⊎◌, ◌↔◌, Bool, cond, ◌&&◌, ◌||◌, List, [], ◌∷◌, eqb, leb, ltb, T, length}
 use Rattle.std.proofs.Math.Path.{refl}
-use Rattle.std.proofs.Math.Logic.{inl, inr, Iff·trans, Iff·and}
+use Rattle.std.proofs.Math.Logic.{inl, inr}
+use Rattle.std.proofs.Math.Logic.Iff
 use Rattle.std.proofs.Math.Bool.{true, false, and-eq-true_iff, true≢false}
 use mathlib.Mathlib.Data.Bool.Basic.{or_inl, or_inr}
 use Rattle.std.proofs.lemmas.Bool.{not-false}
@@ -23,8 +24,8 @@ use Rattle.demands.specs.Rules.{Each, First, ListPlace, EdgeRules, ConstraintRul
 -- ---- tests and what they say
 
 -- the test for at most
-pub at_most : (x y : ℕ) → leb x y ≡ true ↔ x ≤ y
-at_most x y = (leb-true x y, le-leb x y)
+pub at_most_lem : (x y : ℕ) → leb x y ≡ true ↔ x ≤ y
+at_most_lem x y = (leb-true x y, le-leb x y)
 
 -- the test for below
 below : (x y : ℕ) → ltb x y ≡ true ↔ x < y
@@ -37,11 +38,12 @@ equal x y = (eqb-true x y, eq-eqb x y)
 -- a test that passes is true
 passes_true : (t : Bool) → T t → t ≡ true
 passes_true true h = refl
+passes_true false h = elim h [ ]
 
 module _ {s t : Bool} {A B : Type 0} (f : s ≡ true ↔ A) (h : t ≡ true ↔ B) where
   -- two tests that both pass
   pub both : s && t ≡ true ↔ A × B
-  both = Iff·trans (and-eq-true_iff s t) (Iff·and f h)
+  both = Iff.trans (and-eq-true_iff s t) (Iff.and f h)
 
   -- two tests of which one passes
   either : s || t ≡ true ↔ A ⊎ B
@@ -49,12 +51,12 @@ module _ {s t : Bool} {A B : Type 0} (f : s ≡ true ↔ A) (h : t ≡ true ↔ 
 
 -- the test for one of 1..n
 pub one_of : (n x : ℕ) → within 1 x n ≡ true ↔ In n x
-one_of n x = Iff·trans (both (at_most 1 x) (at_most x n)) (λ p. record { low = p.0; high = p.1 }, λ i. (i.low, i.high))
+one_of n x = Iff.trans (both (at_most_lem 1 x) (at_most_lem x n)) (λ p. record { low = p.0; high = p.1 }, λ i. (i.low, i.high))
 
 -- the table's test of a list of at most so many whole records
 pub some_records : (width high : ℕ) (xs : List ℕ) → records width 0 high xs ≡ true ↔ (length xs % width ≡ 0) × (length xs / width ≤ high)
 some_records width high xs =
-    Iff·trans (both (equal (length xs % width) 0) (both (at_most 0 (length xs / width)) (at_most (length xs / width) high)))
+    Iff.trans (both (equal (length xs % width) 0) (both (at_most_lem 0 (length xs / width)) (at_most_lem (length xs / width) high)))
     (λ p. (p.0, p.1.1), λ p. (p.0, (omega arith, p.1)))
 
 -- the table's test of an edge is its rules
@@ -63,7 +65,7 @@ unfolding edge_right
 edge_rules R edges k =
     let d = edge_at edges (k - 1) in
     let e = edge_at edges k in
-    let limits = both (both (both (at_most 1 e.a) (below e.a e.b)) (at_most e.b R)) (one_of most_area e.area) in
+    let limits = both (both (both (at_most_lem 1 e.a) (below e.a e.b)) (at_most_lem e.b R)) (one_of most_area e.area) in
     let after = either (equal k 0) (either (below d.a e.a) (both (equal d.a e.a) (below d.b e.b))) in
     let test = both limits after in (
       λ t. let p = test.0 t in record { limits = record { low = p.0.0.0.0; rise = p.0.0.0.1; high = p.0.0.1; area = p.0.1 }; after = p.1 },
@@ -85,8 +87,8 @@ pub constraint_rules : (kinds : ℕ) (constraints : List ℕ) (k : ℕ) → cons
 unfolding constraint_right
 constraint_rules kinds constraints k =
     let c = constraint_at constraints k in
-    let takes = both (one_of 6 c.relation) (either (either (equal c.kind 1) (at_most 4 c.kind)) (equal c.relation 1)) in
-    let test = both (both (both (one_of kinds c.kind) takes) (at_most c.limit most_limit)) (one_of most_weight c.weight) in (
+    let takes = both (one_of 6 c.relation) (either (either (equal c.kind 1) (at_most_lem 4 c.kind)) (equal c.relation 1)) in
+    let test = both (both (both (one_of kinds c.kind) takes) (at_most_lem c.limit most_limit)) (one_of most_weight c.weight) in (
       λ t. let p = test.0 t in record { kind = p.0.0.0; relation = p.0.0.1.0; takes = p.0.0.1.1; limit = p.0.1; weight = p.1 },
       λ r. test.1 (((r.kind, (r.relation, r.takes)), r.limit), r.weight),
     )
@@ -145,7 +147,7 @@ alone f = (λ p. f.0 p.0, λ b. (f.1 b, tt))
 
 -- a group of two rows passes exactly when both do
 pub two : {A B C D : Type 0} → A ↔ B → C ↔ D → (A × (C × Unit {0})) ↔ B × D
-two f h = Iff·and f (alone h)
+two f h = Iff.and f (alone h)
 
 -- so does a group of four, two and two
 pub four : {A B C D E F G H : Type 0} → A ↔ B → C ↔ D → E ↔ F → G ↔ H → (A × (C × (E × (G × Unit {0})))) ↔ (B × D) × (F × H)

@@ -3,7 +3,7 @@
 use Rattle.std.specs.Prelude.{ℕ, ◌+◌, ◌-◌, ◌%◌, ◌≤◌, ◌<◌, ◌≡◌, refl, ◌⊎◌, ◌↔◌, Bool, true, false, List, length, get_or, take}
 use Rattle.std.proofs.Common.{le-add_right, arith, sym, ap, ◌∙◌, inl, inr, eq-eqb, take_at}
 use Rattle.std.proofs.Math.Decide.{ℕ_discrete}
-use Rattle.std.proofs.Math.Logic.{Iff·trans}
+use Rattle.std.proofs.Math.Logic.Iff
 use Rattle.std.proofs.Math.Bool.{not-eq-not}
 use Rattle.lists.specs.Sums.{In, at}
 use Rattle.lists.specs.Among.{Among, Rising}
@@ -243,4 +243,4 @@ survived_exactly sheet v =
     let f = form_in sheet in
     let n = block_of_region f (head_by sheet) v in
     let rules = told_none (rules_at f sheet n) tt (wrong_told (letters f) n (due_at f sheet n) (block_at sheet n)) in
-    both (Iff·trans (equal _ 0) rules) (one_of (head_by sheet).sectors (sector_in sheet v))
+    both (Iff.trans (equal _ 0) rules) (one_of (head_by sheet).sectors (sector_in sheet v))

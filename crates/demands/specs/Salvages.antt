@@ -27,7 +27,7 @@ use Rattle.salvage.specs.Promise.{fault_between, other_table, last_rows, salvage
 use Rattle.salvage.specs.Anew.{length_anew, as_they_are, form_anew, head_anew, contents_anew}
 use Rattle.salvage.specs.Sound.{as_read, not_opened}
 use Rattle.demands.specs.Tables.{Due}
-use Rattle.demands.specs.RuleLaws.{at_most, whole_passes}
+use Rattle.demands.specs.RuleLaws.{at_most_lem, whole_passes}
 use Rattle.demands.specs.Parts.{Part, whole_part, AllParts, Refused, Listed, Never, named_whole, broken-whole, listed_append, refused_listed, parts_none, none-refused, never_append, whole-due, row-refused}
 use Rattle.demands.specs.SheetRules.{sheet_parts, NoSheetCode, SheetCodes}
 use Rattle.demands.specs.SheetNames.{sheet_range}
@@ -103,8 +103,8 @@ unfolding refusal
 last-refused f sheet bytes list =
     let gone = length (lost (survivors f sheet)) in
     let room = whole 17 (leb gone (length list)) in
-    row-refused (whole 40 (leb (length sheet) (length bytes))) (room ∷ []) (whole_part 17 (LostFit f sheet list) ∷ []) (λ e. omega arith) (whole_passes 40 (at_most (length sheet) (length bytes)))
-    (λ _. row-refused room [] [] (λ e. omega arith) (whole_passes 17 (at_most gone (length list))) (λ _. refl))
+    row-refused (whole 40 (leb (length sheet) (length bytes))) (room ∷ []) (whole_part 17 (LostFit f sheet list) ∷ []) (λ e. omega arith) (whole_passes 40 (at_most_lem (length sheet) (length bytes)))
+    (λ _. row-refused room [] [] (λ e. omega arith) (whole_passes 17 (at_most_lem gone (length list))) (λ _. refl))
 
 -- all of them
 salvage_refused : (f : Form) (sheet bytes list : List ℕ) → Refused (salvage_parts f sheet bytes list) (salvage_refusal f sheet (length bytes) (length list))
@@ -200,6 +200,7 @@ module _ {sheet bytes list : List ℕ} {o : Outcome} (p : Promise sheet bytes li
   last_code : Listed (last_parts f sheet bytes list) (answered o) → NoSheetCode o.answer.code
   last_code (inl m) h = omega (arith, named_whole m)
   last_code (inr (inl m)) h = omega (arith, named_whole m)
+  last_code (inr (inr x3)) h = elim x3 [ ]
 
   -- code 0 is given exactly when all that is asked holds
   pub code_0 : o.answer.code ≡ 0 ↔ AllParts (salvage_parts f sheet bytes list)
@@ -223,6 +224,7 @@ module _ {sheet bytes list : List ℕ} {o : Outcome} (p : Promise sheet bytes li
       last : Listed (last_parts f sheet bytes list) (answered o) → (o.answer.code ≡ 40) ⊎ (o.answer.code ≡ 17)
       last (inl m) = inl (named_whole m)
       last (inr (inl m)) = inr (named_whole m)
+      last (inr (inr x'')) = elim x'' [ ]
 
   -- codes 31 to 38 are given as `SheetCodes` says, as if the blocks of the colouring had been written anew
   pub codes_31_38 : SheetCodes f asked (answered o)
@@ -261,4 +263,4 @@ module _ {sheet bytes list : List ℕ} {o : Outcome} (p : Promise sheet bytes li
   -- a refused salvaging changes nothing, and answers 0 lost regions
   pub refused_salvaging : o.answer.code ≢ 0 → o ≡ left (refused_answer (answered o)) bytes list
   unfolding outcome_of
-  refused_salvaging ne = is_outcome p ∙ rw (as_refused, ne_eqb _ 0 (λ e. ne (ap (λ (r : Refusal). r.code) as_refused ∙ e)))
+  refused_salvaging ne = is_outcome p ∙ rw (ne_eqb _ 0 (λ e. ne (ap (λ (r : Refusal). r.code) as_refused ∙ e))) (ap (λ (r : Refusal). left (refused_answer r) bytes list) (sym as_refused))

@@ -28,7 +28,7 @@ use Rattle.form.specs.Refusals.{fault, length_right, flights_right, head_table, 
 use Rattle.form.specs.Accepted.{fault-rows}
 use Rattle.demands.specs.Tables.{Rule, ◌asks◌, All, Told, rows_told}
 use Rattle.demands.specs.Rules.{plan_rules, RegionsFit, SectorsFit, EdgeCountFits, ConstraintCountFits}
-use Rattle.demands.specs.RuleLaws.{at_most, equal, one_of, both, whole_passes, alone, ◌then◌}
+use Rattle.demands.specs.RuleLaws.{at_most_lem, equal, one_of, both, whole_passes, alone, ◌then◌}
 use Rattle.demands.specs.PlanCodes.{plan_groups, plan_stand}
 use Rattle.demands.specs.Parts.{Part, AllParts, Refused, row-refused, part-refused}
 use Rattle.demands.specs.SheetRules.{block_rules, head_rules, as_given, contents_rules, block_part, numbers_part, count_part, later_parts, later_count, contents_part, open_parts, sheet_parts}
@@ -108,9 +108,9 @@ head_told f h =
     rows_told (map (λ r. r ∷ []) (head_rows f h)) (head_rules f h)
     (alone (whole_passes 1 (one_of most_regions h.regions))
     then alone (whole_passes 2 (one_of most_sectors h.sectors))
-    then alone (whole_passes 4 (at_most h.edges most_edges))
+    then alone (whole_passes 4 (at_most_lem h.edges most_edges))
     then alone (whole_passes 6 (one_of most_constraints h.constraints))
-    then alone (whole_passes 13 (both (at_most h.flights (flight_count f)) (both (at_most h.flights h.visits) (at_most h.visits (most_visits * h.flights)))))
+    then alone (whole_passes 13 (both (at_most_lem h.flights (flight_count f)) (both (at_most_lem h.flights h.visits) (at_most_lem h.visits (most_visits * h.flights)))))
     then tt)
 
 -- ---- what the blocks hold

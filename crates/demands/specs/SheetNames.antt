@@ -1,6 +1,6 @@
 -- Which codes the parts of a sheet name, and with which places.
 -- Assumes nothing.
-use Rattle.std.specs.Prelude.{ℕ, suc, ◌≤◌, ◌≡◌, List, [], ◌∷◌, map}
+use Rattle.std.specs.Prelude.{ℕ, zero, suc, ◌≤◌, ◌≡◌, List, [], ◌∷◌, map}
 use Rattle.std.proofs.Common.{arith, ap, inl, inr, ⊎_elim}
 use Rattle.lists.specs.Sums.{from}
 use Rattle.refusals.specs.declared.Refusal.{Refusal}
@@ -19,6 +19,7 @@ block_codes c letters n d block (inr (inl e)) = (omega arith, omega arith)
 block_codes c letters n d block (inr (inr (inl e))) = (omega arith, omega arith)
 block_codes c letters n d block (inr (inr (inr (inl e)))) = (omega arith, omega arith)
 block_codes c letters n d block (inr (inr (inr (inr (inl e))))) = (omega arith, omega arith)
+block_codes c letters n d block (inr (inr (inr (inr (inr x5))))) = elim x5 [ ]
 
 module _ (f : Form) (sheet : List ℕ) (r : Refusal) where
   -- a block names one of them, with its number
@@ -32,6 +33,7 @@ module _ (f : Form) (sheet : List ℕ) (r : Refusal) where
   named_blocks : (k n : ℕ) → Listed (map (block_part f sheet) (from k n)) r → (31 ≤ r.code) × (r.code ≤ 38)
   named_blocks k (suc n) (inl m) = let c = (named_block k m).1 in (omega (arith, c.0), omega (arith, c.1))
   named_blocks k (suc n) (inr l) = named_blocks (suc k) n l
+  named_blocks k zero x' = elim x' [ ]
 
   -- the codes of a sheet are 31 to 38
   pub sheet_range : Listed (sheet_parts f sheet) r → (31 ≤ r.code) × (r.code ≤ 38)
@@ -43,3 +45,4 @@ module _ (f : Form) (sheet : List ℕ) (r : Refusal) where
     where
       held : Listed (contents_part f sheet ∷ []) r → (31 ≤ r.code) × (r.code ≤ 38)
       held (inl m) = let c = ap (λ (x : Refusal). x.code) m.names in (omega arith, omega arith)
+      held (inr x5) = elim x5 [ ]

@@ -42,6 +42,8 @@ made-sum P col [] beyond w = refl
 made-sum P col (kind ∷ a ∷ b ∷ xs) beyond w =
     let m = move_of P.R P.S kind a b in
     rw (moves_cons P kind a b xs, made-numbers P.R P.S kind a b, made-sum P (next col m) xs beyond w)
+made-sum P col (kind ∷ []) beyond w = elim w [ ]
+made-sum P col (kind ∷ (a ∷ [])) beyond w = elim w [ ]
 
 -- ---- the sum and the totals
 

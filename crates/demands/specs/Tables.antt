@@ -139,6 +139,8 @@ rows_told (g ∷ gs) (A ∷ As) s =
     first_or-others g gs (λ f. Told (A ∷ As) f.code)
     (λ n. inr (λ a. n (s.0.1.1 a), caught_code A.code g s.0.0 n))
     (λ p. inl (s.0.1.0 p, rows_told gs As s.1))
+rows_told [] (A ∷ As) s = elim s [ ]
+rows_told (g ∷ gs) [] s = elim s [ ]
 
 -- ---- what the rules give
 
@@ -158,6 +160,7 @@ told_among (A ∷ As) (inr (n, e)) = inr (inl e)
 pub among_absent : (c : ℕ) (As : List Rule) → T (absent c As) → Among c As → ⊥
 among_absent c (A ∷ As) t (inl e) = (other-code c A As t).0 (sym e)
 among_absent c (A ∷ As) t (inr m) = among_absent c As (other-code c A As t).1 m
+among_absent c [] t x'' = elim x'' [ ]
 
 -- and is not given
 told_absent : {c : ℕ} (As : List Rule) → T (absent c As) → c ≢ 0 → Told As c → ⊥
@@ -192,6 +195,8 @@ given_by c (g ∷ gs) (A ∷ As) s t = go (eqb A.code c) t (given_by c gs As s.1
         → All (cond b [] (A ∷ before c As)) × (cond b A.Holds (rule_of c As) → ⊥) → refusal (in_order (g ∷ gs)) ≡ refusal (cond b g (group_of c gs As))
     go true t next q = caught g (in_order gs) (λ p. q.1 (s.0.1.0 p))
     go false t next q = passed_on g (in_order gs) (s.0.1.1 q.0.0) ∙ next t (q.0.1, q.1)
+given_by c [] (A ∷ As) s t = elim s [ ]
+given_by c (g ∷ gs) [] s t = elim s [ ]
 
 -- a code that one rule has is due as `Due` says, with the place that its own rows name where its rule does not hold
 pub due : (c : ℕ) (gs : List (List Row)) (As : List Rule) → c ≢ 0 → Stand gs As → T (once c As) → {Place : ℕ → Type 0} → ((rule_of c As → ⊥) → Place (refusal (group_of c gs As)).place)

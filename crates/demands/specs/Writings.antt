@@ -16,7 +16,7 @@ use Rattle.writing.specs.Promise.{sheet_bytes, write_refusal, Outcome, refused_a
 use Rattle.demands.specs.Tables.{Rule, ◌asks◌, All, before, Among, in_order, Stand, rows_told, told_among, told_none, due, Told}
 use Rattle.demands.specs.Tables as tables
 use Rattle.demands.specs.Rules.{RegionsFit, SectorsFit, WorkloadsFit, OutsideFits, EdgeCountFits, EdgesFit, CountsFit, VisitsFit, ConstraintCountFits, ConstraintsFit, ColouringFits, plan_rules, WorkloadPlace, OutsidePlace, EdgePlace, FlightPlace, ConstraintPlace, SectorPlace}
-use Rattle.demands.specs.RuleLaws.{at_most, whole_passes, alone, ◌then◌, no_place}
+use Rattle.demands.specs.RuleLaws.{at_most_lem, whole_passes, alone, ◌then◌, no_place}
 use Rattle.demands.specs.PlanCodes.{plan_groups, groups_plan, plan_stand, due_1, due_2, due_3, due_14, due_4, due_5, due_13, due_6, due_7, due_8}
 use Rattle.demands.specs.SheetRules.{as_given, BytesFit}
 use Rattle.demands.specs.FirstSheets.{carried_flights, carried_outside}
@@ -46,7 +46,7 @@ module _ (f : Form) (k : Contents) (lent : List ℕ) where
 
   -- it passes exactly when the lent bytes are enough
   bytes_stand : Stand ((bytes_row ∷ []) ∷ []) ((40 asks BytesFit f k lent) ∷ [])
-  bytes_stand = alone (whole_passes 40 (at_most (sheet_bytes f k) (length lent))) then tt
+  bytes_stand = alone (whole_passes 40 (at_most_lem (sheet_bytes f k) (length lent))) then tt
 
   -- each code's rows have that code, and pass exactly when its rule holds
   write_stand : Stand write_groups (write_rules f k lent)
@@ -141,7 +141,7 @@ module _ {f : Form} {k : Contents} {lent : List ℕ} {o : Outcome} (p : Promise 
   unfolding outcome
   refused_writing ne =
       let r = as_refused ∙ sym (write_groups_lem f k lent) in
-      is_outcome p ∙ rw (r, ne_eqb _ 0 (λ e. ne (ap (λ (r : Refusal). r.code) r ∙ e)))
+      is_outcome p ∙ rw (ne_eqb _ 0 (λ e. ne (ap (λ (r : Refusal). r.code) r ∙ e))) (ap (λ (r : Refusal). left (refused_answer r) lent) (sym r))
 
 -- writing a first sheet, which has no outside areas and no flights, gives neither 13 nor 14
 pub first_written : {R S : ℕ} {workloads edges constraints colouring lent : List ℕ} {o : Outcome} → Promise First (plain R S workloads edges constraints colouring) lent o

@@ -2,7 +2,7 @@
 -- Assumes nothing.
 use Rattle.std.specs.Prelude.{ℕ, suc, ◌-◌, ◌*◌, ◌/◌, ◌<◌, ◌≡◌, refl, ◌↔◌, true, List, length, get_or, take}
 use Rattle.std.proofs.Common.{sub-one, arith, sym, ◌∙◌, get_or-take}
-use Rattle.std.proofs.Math.Logic.{Iff·trans}
+use Rattle.std.proofs.Math.Logic.Iff
 use Rattle.lists.specs.Sums.{In, Every}
 use Rattle.lists.specs.SumLaws.{every_turn}
 use Rattle.lists.specs.ListLaws.{length-list_of}
@@ -57,8 +57,8 @@ module _ {i : Input} {o : Outcome} (p : Promise i o) (z : o.answer.code ≡ 0) w
   unfolding constraints_of
   last-zero-verdicts =
       let n = constraints_given i in
-      Iff·trans last-zero
-      (Iff·trans (verdicts_hold (plan_in i) o.colouring (plan_in i).constraints)
+      Iff.trans last-zero
+      (Iff.trans (verdicts_hold (plan_in i) o.colouring (plan_in i).constraints)
       (rw (length-list_of n (constraint_at i.constraints), ← verdicts-left p z) (say_front n o.verdicts)))
 
   -- the first total is 0 exactly when each constraint holds of the colouring lent
@@ -90,7 +90,7 @@ unfolding judgement judged refused_for constraints_of
 as_said sheet =
     let k = contents_by sheet in
     by_eqb (refusal_by sheet).code 0 AsSaid (judged sheet) (refused_for (refusal_by sheet))
-    (λ e. Iff·trans (sheet_holds sheet e)
+    (λ e. Iff.trans (sheet_holds sheet e)
     (rw (length-list_of (length k.constraints / constraint_length) (constraint_at k.constraints)) at (verdicts_hold (plan_held k) k.colouring (plan_held k).constraints)))
     (λ ne. (λ e n h. absurd (omega arith), λ f. refl))
 
@@ -106,5 +106,5 @@ module _ (sheet : List ℕ) where
   -- of any sheet the total is 0 exactly when 1 is answered for holds at the place of each constraint; one that is refused has no constraints, and its total is 0
   pub sheet_zero-verdicts : total_of sheet ≡ 0 ↔ ((place : ℕ) → In (constraint_count sheet) place → judgement.holds sheet place ≡ 1)
   sheet_zero-verdicts =
-      Iff·trans (as_said sheet)
+      Iff.trans (as_said sheet)
       (λ f place h. holds-said sheet place h ∙ f (place - 1) (omega arith), λ f k h. let i : In (constraint_count sheet) (suc k) = record { low = omega arith; high = h } in rw sub-one at (sym (holds-said sheet (suc k) i) ∙ f (suc k) i))

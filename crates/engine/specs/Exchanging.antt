@@ -38,4 +38,4 @@ module _ {P : Plan} {W : ℕ} {start near areas col w ps q : List ℕ} {s : Stan
   -- regions of different sectors are given each other's
   pub exchanging_swapping : at col a ≢ at col b → Swapping P start near areas col q a b
   exchanging_swapping ne =
-      record { ground = ready_ground k.setting k.ready; first = k.first; second = k.second; other = ne }
+      record { basis = ready_ground k.setting k.ready; first = k.first; second = k.second; other = ne }

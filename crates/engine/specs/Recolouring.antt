@@ -41,4 +41,4 @@ module _ {P : Plan} {W : ℕ} {start near areas col w ps q : List ℕ} {s : Stan
   -- given to another sector, there is a change
   pub recolouring_turning : at col v ≢ d → Turning P start near areas col q v d
   recolouring_turning ne =
-      record { ground = ready_ground k.setting k.ready; region = k.region; sector = k.sector; other = λ e. ne (sym e) }
+      record { basis = ready_ground k.setting k.ready; region = k.region; sector = k.sector; other = λ e. ne (sym e) }

@@ -22,7 +22,7 @@ use Rattle.engine.specs.Turning.{Ground, Turning, Turns, Followed, followed_turn
 
 -- what is found: two regions of different sectors
 pub record Swapping (P : Plan) (start near areas col q : List ℕ) (a b : ℕ) : Type 0 where
-  pub ground : Ground P start near areas col q
+  pub basis : Ground P start near areas col q
   pub first : In P.R a
   pub second : In P.R b
   pub other : at col a ≢ at col b
@@ -31,11 +31,11 @@ module _ {P : Plan} {start near areas col q : List ℕ} {a b : ℕ} (k : Swappin
   -- the first is given to the sector of the second
   pub swapping_first : Turning P start near areas col q a (at col b)
   swapping_first =
-      record { ground = k.ground; region = k.first; sector = k.ground.coloured.sector b k.second; other = λ e. k.other (sym e) }
+      record { basis = k.basis; region = k.first; sector = k.basis.coloured.sector b k.second; other = λ e. k.other (sym e) }
 
   -- the second has its sector still
   still : at (recolour col a (at col b)) b ≡ at col b
-  still = at_set_other col (at col b) k.ground.coloured.size k.first k.second (λ e. k.other (ap (at col) (sym e)))
+  still = at_set_other col (at col b) k.basis.coloured.size k.first k.second (λ e. k.other (ap (at col) (sym e)))
 
   -- the colouring between the two
   pub swapping_between : {col₁ : List ℕ} → col₁ ≡ col → recolour col₁ a (at col b) ≡ recolour col a (at col b)
@@ -44,15 +44,15 @@ module _ {P : Plan} {start near areas col q : List ℕ} {a b : ℕ} (k : Swappin
   module _ {mid : List ℕ} (e : mid ≡ recolour col a (at col b)) where
     -- each region has a sector in it
     pub swapping_coloured : Coloured P mid
-    swapping_coloured = rw e (coloured-recolour k.ground.coloured k.first (k.ground.coloured.sector b k.second))
+    swapping_coloured = rw e (coloured-recolour k.basis.coloured k.first (k.basis.coloured.sector b k.second))
 
     -- the second is given to the old sector of the first
     pub swapping_second : {q' : List ℕ} → length q' ≡ length q → Turning P start near areas mid q' b (at col a)
     swapping_second long =
         record {
-          ground = record { limits = k.ground.limits; coloured = swapping_coloured; table = k.ground.table; queue = rw long k.ground.queue };
+          basis = record { limits = k.basis.limits; coloured = swapping_coloured; table = k.basis.table; queue = rw long k.basis.queue };
           region = k.second;
-          sector = k.ground.coloured.sector a k.first;
+          sector = k.basis.coloured.sector a k.first;
           other = λ s. k.other (s ∙ ap (λ (l : List ℕ). at l b) e ∙ still);
         }
 
@@ -71,7 +71,7 @@ module _ {P : Plan} {start near areas col q : List ℕ} {a b : ℕ} (k : Swappin
 
       -- what both gain and lose can be added up
       pub swapping_addable : Addable once twice
-      swapping_addable = changed_addable f.changed second f.single s.single k.ground.limits
+      swapping_addable = changed_addable f.changed second f.single s.single k.basis.limits
 
       -- both make one change
       pub swapping_changed : Changed P col (swap col a b) (at col a) (at col b) (in_turn once twice)
@@ -80,7 +80,7 @@ module _ {P : Plan} {start near areas col q : List ℕ} {a b : ℕ} (k : Swappin
   module _ {ls : List ℕ} (labelled : ls ≡ labels P.edges col) where
     -- there is a label for each region
     pub swapping_size : length ls ≡ P.R
-    swapping_size = ap length labelled ∙ labels_length k.ground.limits k.ground.coloured
+    swapping_size = ap length labelled ∙ labels_length k.basis.limits k.basis.coloured
 
     module _ {mid ls₁ : List ℕ} {once : Turned} (f : Followed P col (recolour col a (at col b)) (at col a) (at col b) mid ls₁ once) where
       -- the labels after the first are those of the colouring between

@@ -75,7 +75,7 @@ pub record Ground (P : Plan) (start near areas col q : List ℕ) : Type 0 where
 
 -- what a recolouring to another sector finds
 pub record Turning (P : Plan) (start near areas col q : List ℕ) (v d : ℕ) : Type 0 where
-  pub ground : Ground P start near areas col q
+  pub basis : Ground P start near areas col q
   pub region : In P.R v
   pub sector : In P.S d
   pub other : d ≢ at col v
@@ -103,11 +103,11 @@ followed_turns f s = record { changed = f.changed; single = s }
 module _ {P : Plan} {start near areas col q : List ℕ} {v d : ℕ} (t : Turning P start near areas col q v d) where
   -- the plan's limits
   abbrev limits : Limits P
-  limits = t.ground.limits
+  limits = t.basis.limits
 
   -- each region has a sector
   abbrev coloured : Coloured P col
-  coloured = t.ground.coloured
+  coloured = t.basis.coloured
 
   -- so has v
   own : In P.S (at col v)
@@ -124,19 +124,19 @@ module _ {P : Plan} {start near areas col q : List ℕ} {v d : ℕ} (t : Turning
 
   -- R is read off the array of neighbours
   size : length start - 1 ≡ P.R
-  size = omega (arith, t.ground.table.size)
+  size = omega (arith, t.basis.table.size)
 
   -- a look can be taken
   pub turning_looking : Looking (length start - 1) P.edges start near areas col q v d
   turning_looking =
       rw size
       (record {
-        table = t.ground.table;
+        table = t.basis.table;
         few = limits.edges;
         limits = limits.edge;
         size = coloured.size;
         sectors = λ u i. omega (arith, coloured.sector u i, limits.S);
-        room = t.ground.queue;
+        room = t.basis.queue;
         region = t.region;
         sector = omega (arith, t.sector, limits.S);
       })
@@ -156,8 +156,8 @@ module _ {P : Plan} {start near areas col q : List ℕ} {v d : ℕ} (t : Turning
     turning_labels =
         rw (size, same)
         (record {
-          net = table_net t.ground.table;
-          ready = record { size = coloured.size; room = rw long t.ground.queue; plain = λ u i. omega (arith, coloured.sector u i, limits.S) };
+          net = table_net t.basis.table;
+          ready = record { size = coloured.size; room = rw long t.basis.queue; plain = λ u i. omega (arith, coloured.sector u i, limits.S) };
           sectors = λ u i. (coloured.sector u i).low;
           labelled = labelled;
           region = t.region;

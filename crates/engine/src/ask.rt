@@ -34,13 +34,13 @@ pub fn region_violation(
     prices: &[u64],
     region: u64,
 ) -> u64
-    ghost { Plan }
-    requires* constraints_value { λ P. ⌜ plan_of (length workloads.now) sectors workloads.now outside.now edges.now counts.now visits.now constraints.now ≡ P ⌝ }
-    requires* weights_value { λ P. ⌜ weights ≡ weights_of P.constraints ⌝ }
-    requires* prices_value { λ P. ⌜ prices.now ≡ pricesOf P colouring.now ⌝ }
-    requires* fact { λ P. ⌜ Asking P whole start.now near.now areas.now colouring.now work.now region ⌝ }
-    requires* fact_2 { λ P. ⌜ Flown P timed.now counts.now visits.now visited.now flights.now firsts.now ⌝ }
-    ensures* { λ P r. ⌜ r ≡ region_violation P colouring.now region ⌝ }
+    ghost P: { Plan }
+    requires constraints_value { plan_of (length workloads.now) sectors workloads.now outside.now edges.now counts.now visits.now constraints.now ≡ P }
+    requires weights_value { weights ≡ weights_of P.constraints }
+    requires prices_value { prices.now ≡ pricesOf P colouring.now }
+    requires asking { Asking P whole start.now near.now areas.now colouring.now work.now region }
+    requires flown { Flown P timed.now counts.now visits.now visited.now flights.now firsts.now }
+    ensures { result ≡ region_violation P colouring.now region }
 {
     let v = region as usize;
     let own = colouring[v - 1];

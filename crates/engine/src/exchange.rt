@@ -53,16 +53,16 @@ fn change_both(
     first: u64,
     second: u64,
 ) -> Change
-    ghost { Plan }
-    requires* constraints_value { λ P. ⌜ plan_of (length workloads.now) sectors workloads.now outside.now edges.now counts.now visits.now constraints.now ≡ P ⌝ }
-    requires* fact { λ P. ⌜ Paid P colouring.old limited.now prices.now ⌝ }
-    requires* fact_2 { λ P. ⌜ Remembered P.R P.S P.edges colouring.old clock known.old ⌝ }
-    requires* fact_3 { λ P. ⌜ Swapping P start.now near.now areas.now colouring.old queue.old first second ⌝ }
-    requires* fact_4 { λ P. ⌜ Kept P colouring.old work.now ⌝ }
-    requires* fact_5 { λ P. ⌜ Flown P timed.now counts.now visits.now visited.now flights.now firsts.now ⌝ }
-    ensures* fact_6 { λ P r. ⌜ Remembered P.R P.S P.edges colouring.old clock known.new ⌝ }
-    ensures* fact_7 { λ P r. ⌜ Changed P colouring.old (swap colouring.old first second) (at colouring.old first) (at colouring.old second) r ⌝ }
-    ensures* colouring_after { λ P r. ⌜ colouring.new ≡ colouring.old ⌝ }
+    ghost P: { Plan }
+    requires constraints_value { plan_of (length workloads.now) sectors workloads.now outside.now edges.now counts.now visits.now constraints.now ≡ P }
+    requires paid { Paid P colouring.old limited.now prices.now }
+    requires remembered { Remembered P.R P.S P.edges colouring.old clock known.old }
+    requires swapping { Swapping P start.now near.now areas.now colouring.old queue.old first second }
+    requires kept { Kept P colouring.old work.now }
+    requires flown { Flown P timed.now counts.now visits.now visited.now flights.now firsts.now }
+    ensures remembered { Remembered P.R P.S P.edges colouring.old clock known.new }
+    ensures changed { Changed P colouring.old (swap colouring.old first second) (at colouring.old first) (at colouring.old second) result }
+    ensures colouring_after { colouring.new ≡ colouring.old }
 {
     let z = first as usize - 1;
     let own = colouring[z];
@@ -148,15 +148,15 @@ pub fn probe(
     first: u64,
     second: u64,
 ) -> u64
-    ghost { Plan }
-    requires* constraints_value { λ P. ⌜ plan_of (length workloads.now) sectors workloads.now outside.now edges.now counts.now visits.now constraints.now ≡ P ⌝ }
-    requires* fact { λ P. ⌜ Sorted P shared.now limited.now ⌝ }
-    requires* fact_2 { λ P. ⌜ Remembered P.R P.S P.edges colouring.old clock known.old ⌝ }
-    requires* fact_3 { λ P. ⌜ Exchanging P whole start.now near.now areas.now colouring.old work.now prices.now queue.old standing first second ⌝ }
-    requires* fact_4 { λ P. ⌜ Flown P timed.now counts.now visits.now visited.now flights.now firsts.now ⌝ }
-    ensures* fact_5 { λ P r. ⌜ Remembered P.R P.S P.edges colouring.old clock known.new ⌝ }
-    ensures* r_value { λ P r. ⌜ r ≡ total P (swap colouring.old first second) ⌝ }
-    ensures* colouring_after { λ P r. ⌜ colouring.new ≡ colouring.old ⌝ }
+    ghost P: { Plan }
+    requires constraints_value { plan_of (length workloads.now) sectors workloads.now outside.now edges.now counts.now visits.now constraints.now ≡ P }
+    requires sorted { Sorted P shared.now limited.now }
+    requires remembered { Remembered P.R P.S P.edges colouring.old clock known.old }
+    requires exchanging { Exchanging P whole start.now near.now areas.now colouring.old work.now prices.now queue.old standing first second }
+    requires flown { Flown P timed.now counts.now visits.now visited.now flights.now firsts.now }
+    ensures remembered { Remembered P.R P.S P.edges colouring.old clock known.new }
+    ensures r_value { result ≡ total P (swap colouring.old first second) }
+    ensures colouring_after { colouring.new ≡ colouring.old }
 {
     let own = colouring[first as usize - 1];
     let other = colouring[second as usize - 1];
@@ -226,14 +226,14 @@ fn turn_both(
     first: u64,
     second: u64,
 ) -> Turned
-    ghost { Plan }
-    requires* constraints_value { λ P. ⌜ plan_of (length workloads.now) sectors workloads.now outside.now edges.now counts.now visits.now constraints.now ≡ P ⌝ }
-    requires* limited_value { λ P. ⌜ constraints_of limited.now ≡ limitedOf P.constraints ⌝ }
-    requires* fact { λ P. ⌜ Swapping P start.now near.now areas.now colouring.old queue.old first second ⌝ }
-    requires* before_value { λ P. ⌜ before ≡ sides_of P colouring.old (at colouring.old first) (at colouring.old second) ⌝ }
-    requires* labels_value { λ P. ⌜ labels.old ≡ labelsOf P.edges colouring.old ⌝ }
-    requires* fact_2 { λ P. ⌜ Flown P timed.now counts.now visits.now visited.now flights.now firsts.now ⌝ }
-    ensures* { λ P r. ⌜ Followed P colouring.old (swap colouring.old first second) (at colouring.old first) (at colouring.old second) colouring.new labels.new r ⌝ }
+    ghost P: { Plan }
+    requires constraints_value { plan_of (length workloads.now) sectors workloads.now outside.now edges.now counts.now visits.now constraints.now ≡ P }
+    requires limited_value { constraints_of limited.now ≡ limitedOf P.constraints }
+    requires swapping { Swapping P start.now near.now areas.now colouring.old queue.old first second }
+    requires before_value { before ≡ sides_of P colouring.old (at colouring.old first) (at colouring.old second) }
+    requires labels_value { labels.old ≡ labelsOf P.edges colouring.old }
+    requires flown { Flown P timed.now counts.now visits.now visited.now flights.now firsts.now }
+    ensures { Followed P colouring.old (swap colouring.old first second) (at colouring.old first) (at colouring.old second) colouring.new labels.new result }
 {
     let regions = workloads.len();
     let from = colouring[first as usize - 1];
@@ -317,12 +317,12 @@ pub fn make(
     first: u64,
     second: u64,
 ) -> Made
-    ghost { Plan }
-    requires* constraints_value { λ P. ⌜ plan_of (length workloads.now) sectors workloads.now outside.now edges.now counts.now visits.now constraints.now ≡ P ⌝ }
-    requires* fact { λ P. ⌜ Sorted P shared.now limited.now ⌝ }
-    requires* fact_2 { λ P. ⌜ Exchanging P whole start.now near.now areas.now colouring.old work.old prices.old queue.old standing first second ⌝ }
-    requires* fact_3 { λ P. ⌜ Flown P timed.now counts.now visits.now visited.now flights.now firsts.now ⌝ }
-    ensures* { λ P r. ⌜ Remade P colouring.old work.old (swap colouring.old first second) colouring.new work.new prices.new r ⌝ }
+    ghost P: { Plan }
+    requires constraints_value { plan_of (length workloads.now) sectors workloads.now outside.now edges.now counts.now visits.now constraints.now ≡ P }
+    requires sorted { Sorted P shared.now limited.now }
+    requires exchanging { Exchanging P whole start.now near.now areas.now colouring.old work.old prices.old queue.old standing first second }
+    requires flown { Flown P timed.now counts.now visits.now visited.now flights.now firsts.now }
+    ensures { Remade P colouring.old work.old (swap colouring.old first second) colouring.new work.new prices.new result }
 {
     let from = colouring[first as usize - 1];
     let to = colouring[second as usize - 1];

@@ -24,7 +24,7 @@ pub mod exchange; // exchange.rt: an exchange, probed or made
 pub mod ask; // ask.rt: a region's violation
 
 // The figures and the total of the colouring as it stands.
-#[derive(Drop)]
+#[derive(Clone, Copy)]
 pub struct Standing {
     pub figures: Figures,
     pub total: u64,
@@ -82,17 +82,17 @@ pub fn step(
     standing: Standing,
     asked: Move,
 ) -> Stepped
-    ghost { Plan }
-    requires* constraints_value { λ P. ⌜ plan_of (length workloads.now) sectors workloads.now outside.now edges.now counts.now visits.now constraints.now ≡ P ⌝ }
-    requires* fact { λ P. ⌜ Sorted P shared.now limited.now × (weights ≡ weights_of P.constraints) ⌝ }
-    requires* fact_2 { λ P. ⌜ Remembered P.R P.S P.edges colouring.old clock known.old ⌝ }
-    requires* clock_bound { λ P. ⌜ clock < most_moves ⌝ }
-    requires* fact_3 { λ P. ⌜ Setting P whole start.now near.now areas.now queue.old ⌝ }
-    requires* fact_4 { λ P. ⌜ Ready P colouring.old work.old prices.old standing ⌝ }
-    requires* fact_5 { λ P. ⌜ Within P asked ⌝ }
-    requires* fact_6 { λ P. ⌜ Flown P timed.now counts.now visits.now visited.now flights.now firsts.now ⌝ }
-    ensures* fact_7 { λ P r. ⌜ Remembered P.R P.S P.edges (next colouring.old asked) (clock + 1) known.new ⌝ }
-    ensures* fact_8 { λ P r. ⌜ Answered P colouring.old work.old asked colouring.new work.new prices.new r ⌝ }
+    ghost P: { Plan }
+    requires constraints_value { plan_of (length workloads.now) sectors workloads.now outside.now edges.now counts.now visits.now constraints.now ≡ P }
+    requires sorted { Sorted P shared.now limited.now × (weights ≡ weights_of P.constraints) }
+    requires remembered { Remembered P.R P.S P.edges colouring.old clock known.old }
+    requires clock_bound { clock < most_moves }
+    requires setting { Setting P whole start.now near.now areas.now queue.old }
+    requires ready { Ready P colouring.old work.old prices.old standing }
+    requires within { Within P asked }
+    requires flown { Flown P timed.now counts.now visits.now visited.now flights.now firsts.now }
+    ensures remembered { Remembered P.R P.S P.edges (next colouring.old asked) (clock + 1) known.new }
+    ensures answered { Answered P colouring.old work.old asked colouring.new work.new prices.new result }
 {
     let before = standing.total;
     match asked {
@@ -307,13 +307,13 @@ pub fn begin(
     prices: &mut [u64],
     queue: &mut [u64],
 ) -> Standing
-    ghost { Plan }
-    requires* constraints_value { λ P. ⌜ plan_of (length workloads.now) sectors workloads.now outside.now edges.now counts.now visits.now constraints.now ≡ P ⌝ }
-    requires* fact { λ P. ⌜ Sorted P shared.now limited.now ⌝ }
-    requires* fact_2 { λ P. ⌜ Setting P whole start.now near.now areas.now queue.old ⌝ }
-    requires* fact_3 { λ P. ⌜ Opening P colouring.old work.old prices.old ⌝ }
-    requires* fact_4 { λ P. ⌜ Priced P timed.now counts.now visits.now ⌝ }
-    ensures* { λ P r. ⌜ Opened P colouring.old work.old colouring.new work.new prices.new r ⌝ }
+    ghost P: { Plan }
+    requires constraints_value { plan_of (length workloads.now) sectors workloads.now outside.now edges.now counts.now visits.now constraints.now ≡ P }
+    requires sorted { Sorted P shared.now limited.now }
+    requires setting { Setting P whole start.now near.now areas.now queue.old }
+    requires opening { Opening P colouring.old work.old prices.old }
+    requires priced { Priced P timed.now counts.now visits.now }
+    ensures { Opened P colouring.old work.old colouring.new work.new prices.new result }
 {
     memory::lay_out(
         sectors,

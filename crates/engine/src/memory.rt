@@ -101,11 +101,11 @@ pub fn lay_out(
     work: &mut [u64],
     queue: &mut [u64],
 )
-    ghost { Plan }
-    requires* constraints_value { λ P. ⌜ plan_of (length workloads.now) sectors workloads.now outside.now edges.now counts.now visits.now constraints.now ≡ P ⌝ }
-    requires* fact { λ P. ⌜ Blank P start.now near.now colouring.old work.old queue.old ⌝ }
-    ensures* colouring_after { λ P _. ⌜ colouring.new ≡ colouring.old ⌝ }
-    ensures* work_after { λ P _. ⌜ work.new ≡ memory P colouring.old ++ drop (memory_length P) work.old ⌝ }
+    ghost P: { Plan }
+    requires constraints_value { plan_of (length workloads.now) sectors workloads.now outside.now edges.now counts.now visits.now constraints.now ≡ P }
+    requires blank { Blank P start.now near.now colouring.old work.old queue.old }
+    ensures colouring_after { colouring.new ≡ colouring.old }
+    ensures work_after { work.new ≡ memory P colouring.old ++ drop (memory_length P) work.old }
 {
     let regions = workloads.len();
     let counts_end = regions + sectors as usize;

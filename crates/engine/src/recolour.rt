@@ -45,15 +45,15 @@ pub fn probe(
     region: u64,
     sector: u64,
 ) -> u64
-    ghost { Plan }
-    requires* constraints_value { λ P. ⌜ plan_of (length workloads.now) sectors workloads.now outside.now edges.now counts.now visits.now constraints.now ≡ P ⌝ }
-    requires* fact { λ P. ⌜ Sorted P shared.now limited.now ⌝ }
-    requires* fact_2 { λ P. ⌜ Remembered P.R P.S P.edges colouring.old clock known.old ⌝ }
-    requires* fact_3 { λ P. ⌜ Recolouring P whole start.now near.now areas.now colouring.old work.now prices.now queue.old standing region sector ⌝ }
-    requires* fact_4 { λ P. ⌜ Flown P timed.now counts.now visits.now visited.now flights.now firsts.now ⌝ }
-    ensures* fact_5 { λ P r. ⌜ Remembered P.R P.S P.edges colouring.old clock known.new ⌝ }
-    ensures* r_value { λ P r. ⌜ r ≡ total P (recolour colouring.old region sector) ⌝ }
-    ensures* colouring_after { λ P r. ⌜ colouring.new ≡ colouring.old ⌝ }
+    ghost P: { Plan }
+    requires constraints_value { plan_of (length workloads.now) sectors workloads.now outside.now edges.now counts.now visits.now constraints.now ≡ P }
+    requires sorted { Sorted P shared.now limited.now }
+    requires remembered { Remembered P.R P.S P.edges colouring.old clock known.old }
+    requires recolouring { Recolouring P whole start.now near.now areas.now colouring.old work.now prices.now queue.old standing region sector }
+    requires flown { Flown P timed.now counts.now visits.now visited.now flights.now firsts.now }
+    ensures remembered { Remembered P.R P.S P.edges colouring.old clock known.new }
+    ensures r_value { result ≡ total P (recolour colouring.old region sector) }
+    ensures colouring_after { colouring.new ≡ colouring.old }
 {
     let own = colouring[region as usize - 1];
     if own == sector {
@@ -115,12 +115,12 @@ pub fn make(
     region: u64,
     sector: u64,
 ) -> Made
-    ghost { Plan }
-    requires* constraints_value { λ P. ⌜ plan_of (length workloads.now) sectors workloads.now outside.now edges.now counts.now visits.now constraints.now ≡ P ⌝ }
-    requires* fact { λ P. ⌜ Sorted P shared.now limited.now ⌝ }
-    requires* fact_2 { λ P. ⌜ Recolouring P whole start.now near.now areas.now colouring.old work.old prices.old queue.old standing region sector ⌝ }
-    requires* fact_3 { λ P. ⌜ Flown P timed.now counts.now visits.now visited.now flights.now firsts.now ⌝ }
-    ensures* { λ P r. ⌜ Remade P colouring.old work.old (recolour colouring.old region sector) colouring.new work.new prices.new r ⌝ }
+    ghost P: { Plan }
+    requires constraints_value { plan_of (length workloads.now) sectors workloads.now outside.now edges.now counts.now visits.now constraints.now ≡ P }
+    requires sorted { Sorted P shared.now limited.now }
+    requires recolouring { Recolouring P whole start.now near.now areas.now colouring.old work.old prices.old queue.old standing region sector }
+    requires flown { Flown P timed.now counts.now visits.now visited.now flights.now firsts.now }
+    ensures { Remade P colouring.old work.old (recolour colouring.old region sector) colouring.new work.new prices.new result }
 {
     let own = colouring[region as usize - 1];
     if own == sector {

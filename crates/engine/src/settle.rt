@@ -30,12 +30,12 @@ pub fn settle(
     sector: u64,
     change: Change,
 ) -> Standing
-    ghost { Plan }
-    requires* constraints_value { λ P. ⌜ plan_of (length workloads.now) sectors workloads.now outside.now edges.now counts.now visits.now constraints.now ≡ P ⌝ }
-    requires* shared_value { λ P. ⌜ constraints_of shared.now ≡ sharedOf P.constraints ⌝ }
-    requires* fact { λ P. ⌜ Settling P whole colouring.now work.old prices.old standing own sector change ⌝ }
-    ensures* fact_2 { λ P r. ⌜ Left P work.old colouring.now colouring.now work.new prices.new ⌝ }
-    ensures* r_value { λ P r. ⌜ r ≡ standing_of P colouring.now ⌝ }
+    ghost P: { Plan }
+    requires constraints_value { plan_of (length workloads.now) sectors workloads.now outside.now edges.now counts.now visits.now constraints.now ≡ P }
+    requires shared_value { constraints_of shared.now ≡ sharedOf P.constraints }
+    requires settling { Settling P whole colouring.now work.old prices.old standing own sector change }
+    ensures left { Left P work.old colouring.now colouring.now work.new prices.new }
+    ensures r_value { result ≡ standing_of P colouring.now }
 {
     let figures = figures_after(sectors, whole, standing.figures, change);
     let after = total(shared, figures);

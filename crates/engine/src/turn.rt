@@ -34,7 +34,7 @@ fn swing_at(
     sector: u64,
 ) -> Swing
     requires pricing { Pricing (length colouring.now) timed.now counts.now visits.now visited.now flights.now firsts.now }
-    requires fact { In (length colouring.now) region }
+    requires in_range { In (length colouring.now) region }
     ensures { VisitorsDiffer (constraints_of timed.now) colouring.now region sector (flights_of counts.now visits.now) (record { before = result.lost; after = result.gained }) }
 {
     let prices = price_both(
@@ -118,16 +118,16 @@ pub fn change_at(
     region: u64,
     sector: u64,
 ) -> Change
-    ghost { Plan }
-    requires* constraints_value { λ P. ⌜ plan_of (length workloads.now) sectors workloads.now outside.now edges.now counts.now visits.now constraints.now ≡ P ⌝ }
-    requires* fact { λ P. ⌜ Paid P colouring.old limited.now prices.now ⌝ }
-    requires* fact_2 { λ P. ⌜ Remembered P.R P.S P.edges colouring.old clock known.old ⌝ }
-    requires* fact_3 { λ P. ⌜ Turning P start.now near.now areas.now colouring.old queue.old region sector ⌝ }
-    requires* fact_4 { λ P. ⌜ Kept P colouring.old work.now ⌝ }
-    requires* fact_5 { λ P. ⌜ Flown P timed.now counts.now visits.now visited.now flights.now firsts.now ⌝ }
-    ensures* fact_6 { λ P r. ⌜ Remembered P.R P.S P.edges colouring.old clock known.new ⌝ }
-    ensures* fact_7 { λ P r. ⌜ Turns P colouring.old region sector r ⌝ }
-    ensures* colouring_after { λ P r. ⌜ colouring.new ≡ colouring.old ⌝ }
+    ghost P: { Plan }
+    requires constraints_value { plan_of (length workloads.now) sectors workloads.now outside.now edges.now counts.now visits.now constraints.now ≡ P }
+    requires paid { Paid P colouring.old limited.now prices.now }
+    requires remembered { Remembered P.R P.S P.edges colouring.old clock known.old }
+    requires turning { Turning P start.now near.now areas.now colouring.old queue.old region sector }
+    requires kept { Kept P colouring.old work.now }
+    requires flown { Flown P timed.now counts.now visits.now visited.now flights.now firsts.now }
+    ensures remembered { Remembered P.R P.S P.edges colouring.old clock known.new }
+    ensures turns { Turns P colouring.old region sector result }
+    ensures colouring_after { colouring.new ≡ colouring.old }
 {
     let regions = workloads.len();
     let v = region as usize;
@@ -177,14 +177,14 @@ pub fn change_anew(
     region: u64,
     sector: u64,
 ) -> Change
-    ghost { Plan }
-    requires* constraints_value { λ P. ⌜ plan_of (length workloads.now) sectors workloads.now outside.now edges.now counts.now visits.now constraints.now ≡ P ⌝ }
-    requires* limited_value { λ P. ⌜ constraints_of limited.now ≡ limitedOf P.constraints ⌝ }
-    requires* fact { λ P. ⌜ Turning P start.now near.now areas.now colouring.old queue.old region sector ⌝ }
-    requires* before_value { λ P. ⌜ before ≡ sides_of P colouring.old (at colouring.old region) sector ⌝ }
-    requires* fact_2 { λ P. ⌜ Flown P timed.now counts.now visits.now visited.now flights.now firsts.now ⌝ }
-    ensures* fact_3 { λ P r. ⌜ Turns P colouring.old region sector r ⌝ }
-    ensures* colouring_after { λ P r. ⌜ colouring.new ≡ colouring.old ⌝ }
+    ghost P: { Plan }
+    requires constraints_value { plan_of (length workloads.now) sectors workloads.now outside.now edges.now counts.now visits.now constraints.now ≡ P }
+    requires limited_value { constraints_of limited.now ≡ limitedOf P.constraints }
+    requires turning { Turning P start.now near.now areas.now colouring.old queue.old region sector }
+    requires before_value { before ≡ sides_of P colouring.old (at colouring.old region) sector }
+    requires flown { Flown P timed.now counts.now visits.now visited.now flights.now firsts.now }
+    ensures turns { Turns P colouring.old region sector result }
+    ensures colouring_after { colouring.new ≡ colouring.old }
 {
     let v = region as usize;
     let workload = workloads[v - 1];
@@ -227,15 +227,15 @@ pub fn turn(
     region: u64,
     sector: u64,
 ) -> Turned
-    ghost { Plan }
-    requires* constraints_value { λ P. ⌜ plan_of (length workloads.now) sectors workloads.now outside.now edges.now counts.now visits.now constraints.now ≡ P ⌝ }
-    requires* limited_value { λ P. ⌜ constraints_of limited.now ≡ limitedOf P.constraints ⌝ }
-    requires* fact { λ P. ⌜ Turning P start.now near.now areas.now colouring.old queue.old region sector ⌝ }
-    requires* before_value { λ P. ⌜ before ≡ sides_of P colouring.old (at colouring.old region) sector ⌝ }
-    requires* labels_value { λ P. ⌜ labels.old ≡ labelsOf P.edges colouring.old ⌝ }
-    requires* fact_2 { λ P. ⌜ Flown P timed.now counts.now visits.now visited.now flights.now firsts.now ⌝ }
-    ensures* fact_3 { λ P r. ⌜ Followed P colouring.old (recolour colouring.old region sector) (at colouring.old region) sector colouring.new labels.new r ⌝ }
-    ensures* fact_4 { λ P r. ⌜ Single r.change ⌝ }
+    ghost P: { Plan }
+    requires constraints_value { plan_of (length workloads.now) sectors workloads.now outside.now edges.now counts.now visits.now constraints.now ≡ P }
+    requires limited_value { constraints_of limited.now ≡ limitedOf P.constraints }
+    requires turning { Turning P start.now near.now areas.now colouring.old queue.old region sector }
+    requires before_value { before ≡ sides_of P colouring.old (at colouring.old region) sector }
+    requires labels_value { labels.old ≡ labelsOf P.edges colouring.old }
+    requires flown { Flown P timed.now counts.now visits.now visited.now flights.now firsts.now }
+    ensures followed { Followed P colouring.old (recolour colouring.old region sector) (at colouring.old region) sector colouring.new labels.new result }
+    ensures single { Single result.change }
 {
     let v = region as usize;
     let workload = workloads[v - 1];

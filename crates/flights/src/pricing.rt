@@ -13,7 +13,7 @@ use kinds::price;
 use terms::limits::VISIT_LENGTH;
 
 // The first stretch of some visits: its sector, its seconds and whether its price counts; and the price of the stretches after it.
-#[derive(Drop)]
+#[derive(Clone, Copy)]
 struct Stretch {
     sector: u64,
     seconds: u64,
@@ -123,7 +123,7 @@ pub fn flight_price(timed: &[u64], flight: &[u64], colouring: &[u64], all: bool,
 }
 
 // A stretch as it is, and with a region given to another sector.
-#[derive(Drop)]
+#[derive(Clone, Copy)]
 struct Stretches {
     before: Stretch,
     after: Stretch,
@@ -142,7 +142,7 @@ fn sector_given(visited: u64, own: u64, region: u64, sector: u64) -> u64
 // The stretch of visit k, from 0, alone, as it is and with the region given to the sector.
 fn stretches_of(flight: &[u64], colouring: &[u64], region: u64, sector: u64, k: usize) -> Stretches
     requires visiting { Visiting (length colouring.now) flight.now k }
-    requires fact { In (length colouring.now) region }
+    requires in_range { In (length colouring.now) region }
     ensures { result ≡ alone_both colouring.now region sector (visit_at flight.now k) }
 {
     let before = stretch_of(flight, colouring, true, region, k);
@@ -157,7 +157,7 @@ fn stretches_of(flight: &[u64], colouring: &[u64], region: u64, sector: u64, k: 
 }
 
 // Two prices, as a flight is and with a region given to another sector: what they differ by counts, not how large they are.
-#[derive(Drop)]
+#[derive(Clone, Copy)]
 pub struct Prices {
     pub before: u64,
     pub after: u64,
@@ -233,7 +233,7 @@ pub fn flight_prices(
 ) -> Prices
     requires paying { Paying timed.now }
     requires flight_limits { FlightLimits (length colouring.now) (visits_of flight.now) }
-    requires fact { In (length colouring.now) region }
+    requires in_range { In (length colouring.now) region }
     ensures { Differ (flight_price (constraints_of timed.now) colouring.now true region (visits_of flight.now)) (flight_price (constraints_of timed.now) (recolour colouring.now region sector) true region (visits_of flight.now)) result }
 {
     let mut k = flight.len() / VISIT_LENGTH - 1;

@@ -75,6 +75,8 @@ fits_constraints (suc n) (kind ∷ relation ∷ limit ∷ weight ∷ xs) l h =
 fits_append : (a b xs ys : List ℕ) → Fits a xs → Fits b ys → Fits (a ++ b) (xs ++ ys)
 fits_append [] b [] ys p q = q
 fits_append (w ∷ a) b (x ∷ xs) ys p q = (p.0, fits_append a b xs ys p.1 q)
+fits_append [] b (x ∷ xs) ys p q = elim p [ ]
+fits_append (w ∷ a) b [] ys p q = elim p [ ]
 
 fits_visits : (R n : ℕ) (xs : List ℕ) → R ≤ most_regions → length xs ≡ visit_length * n → ((k : ℕ) → k < n → VisitLimits R (visit_at xs k)) → Fits (rep n visit_widths) xs
 fits_visits R zero [] r l h = tt

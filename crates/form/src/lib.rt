@@ -65,7 +65,7 @@ pub const VISIT_WIDTHS: [u8; 2] = [2, 4];
 pub const VISIT_BYTES: usize = 6;
 
 // The numbers of a sheet's head: how many regions, sectors, edges, constraints, flights and visits there are.
-#[derive(Drop)]
+#[derive(Clone, Copy)]
 pub struct Head {
     pub regions: u64,
     pub sectors: u64,
@@ -76,7 +76,7 @@ pub struct Head {
 }
 
 // Which of the two sheets: the second carries outside areas and flights.
-#[derive(Drop)]
+#[derive(Clone, Copy)]
 pub enum Form {
     First,
     Second,

@@ -10,7 +10,7 @@ pub mod verdicts; // verdicts.rt: the violations, the total and the verdicts, by
 
 // The numbers of a colouring that its total is made of: all components, those above the first of each sector, the border, the deviation of
 // the sectors' workloads, and what the constraints of kind 4 and of kind 5 add to the total.
-#[derive(Drop)]
+#[derive(Clone, Copy)]
 pub struct Figures {
     pub components: u64,
     pub excess: u64,

@@ -15,7 +15,7 @@ use terms::limits::EDGE_LENGTH;
 
 // Adds x to the sum of a sector.
 fn add_to(sums: &mut [u64], sector: u64, x: u64)
-    requires fact { In (length sums.old) sector }
+    requires in_range { In (length sums.old) sector }
     requires x_bound { at sums.old sector + x < 2 ^ 64 }
     ensures { sums.new ≡ added sums.old sector x }
 {
@@ -61,8 +61,8 @@ pub fn tally_workloads(workloads: &[u64], colouring: &[u64], loads: &mut [u64])
 // The area of edge k, from 0, where its ends differ in sector, and 0 elsewhere.
 fn border_at(edges: &[u64], colouring: &[u64], k: usize) -> u64
     requires k_in_bounds { k < length edges.now / edge_length }
-    requires fact { In (length colouring.now) (edge_at edges.now k).a }
-    requires fact_2 { In (length colouring.now) (edge_at edges.now k).b }
+    requires in_range { In (length colouring.now) (edge_at edges.now k).a }
+    requires in_range_2 { In (length colouring.now) (edge_at edges.now k).b }
     ensures { result ≡ cond (crosses colouring.now (edge_at edges.now k)) (edge_at edges.now k).area 0 }
 {
     let at = EDGE_LENGTH * k;

@@ -14,7 +14,7 @@ use terms::{excess, relation_of};
 
 // 1 where x does not stand in the relation to the limit, 0 where it does.
 fn missed(relation: u64, x: u64, limit: u64) -> u64
-    requires fact { In 6 relation }
+    requires in_range { In 6 relation }
     requires x_bound { (x < 2 ^ 63) × (limit < 2 ^ 63) }
     ensures { result ≡ bit (not (stands relation x limit)) }
 {

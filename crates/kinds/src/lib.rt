@@ -79,7 +79,7 @@ pub fn price(constraints: &[u64], x: u64) -> u64
 }
 
 // The summed weights of the constraints of the kinds 1, 2 and 3.
-#[derive(Drop)]
+#[derive(Clone, Copy)]
 pub struct Weights {
     pub connected: u64,
     pub border: u64,

@@ -15,4 +15,4 @@ abbrev pub Reads : ℕ → Lft → (T : RattleType) → Bor (List T.Denot) → F
 Reads n κ T x = (ShrSlice (named n) κ T).own_val x (slice x ∷ [])
 
 abbrev pub Writes : ℕ → Lft → (T : RattleType) → MutBor (List T.Denot) → Fml
-Writes n κ T x = (MutSlice (named n) κ T).own_val x (slice x ∷ [])
+Writes n κ T x = (MutSlice (named n) κ T).own_val x (slice_val x.ref_ptr (length x.now) ∷ [])

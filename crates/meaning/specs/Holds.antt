@@ -7,7 +7,7 @@ use Rattle.std.proofs.Math.Decide.{ℕ_discrete}
 use Rattle.std.specs.Prelude.{◌≡◌, ◌↔◌, Bool, length, get_or}
 use Rattle.std.proofs.Math.Path.{refl}
 use mathlib.Core.List.{List, [], ◌∷◌}
-use Rattle.std.proofs.Math.Logic.{Iff·trans}
+use Rattle.std.proofs.Math.Logic.Iff
 use Rattle.std.proofs.Math.Bool.{true, false, not}
 use Rattle.std.proofs.lemmas.Bool.{false≢true}
 use borrow.Author.Tests.{eqb-true, eq-eqb}
@@ -135,27 +135,27 @@ module _ (P : Plan) (col : List ℕ) where
     pub connected-holds : k.kind ≡ 1 → holds P col k ≡ true ↔ (stands k.relation (ncc_all P col) k.limit ≡ true) × Every (λ n. n ≤ 1) (counts P col)
     unfolding violation connected
     connected-holds e =
-        Iff·trans (holds_at (by_kind_1 _ _ _ _ _ e))
+        Iff.trans (holds_at (by_kind_1 _ _ _ _ _ e))
         (both_zero (failed_zero (stands k.relation (ncc_all P col) k.limit)) (zero-all _ (counts P col) _ (λ n. omega arith)))
 
     -- kind 2 holds exactly when the border is at most the limit
     pub border-holds : k.kind ≡ 2 → holds P col k ≡ true ↔ border P col ≤ k.limit
     unfolding violation
-    border-holds e = Iff·trans (holds_at (by_kind_2 _ _ _ _ _ e)) (omega arith)
+    border-holds e = Iff.trans (holds_at (by_kind_2 _ _ _ _ _ e)) (omega arith)
 
     -- kind 3 holds exactly when the deviation is at most the limit
     pub balanced_holds : k.kind ≡ 3 → holds P col k ≡ true ↔ deviation P col ≤ k.limit
     unfolding violation
-    balanced_holds e = Iff·trans (holds_at (by_kind_3 _ _ _ _ _ e)) (omega arith)
+    balanced_holds e = Iff.trans (holds_at (by_kind_3 _ _ _ _ _ e)) (omega arith)
 
     -- kind 4 holds exactly when each sector's workload stands in the relation to the limit
     pub bounded-holds : k.kind ≡ 4 → holds P col k ≡ true ↔ Every (λ x. stands k.relation x k.limit ≡ true) (loads P col)
     unfolding violation bounded
-    bounded-holds e = Iff·trans (holds_at (by_kind_4 _ _ _ _ _ e)) (zero-all _ (loads P col) _ (λ x. distance-zero k.relation x k.limit))
+    bounded-holds e = Iff.trans (holds_at (by_kind_4 _ _ _ _ _ e)) (zero-all _ (loads P col) _ (λ x. distance-zero k.relation x k.limit))
 
     -- kind 5 holds exactly when the summed dwell of each stretch stands in the relation to the limit
     pub dwelling-holds : k.kind ≡ 5 → holds P col k ≡ true ↔ Every (λ flight. Every (λ s. stands k.relation (dwell_of s) k.limit ≡ true) (stretches col flight)) P.flights
     unfolding violation dwelling
     dwelling-holds e =
-        Iff·trans (holds_at (by_kind_5 _ _ _ _ _ e))
+        Iff.trans (holds_at (by_kind_5 _ _ _ _ _ e))
         (zero-all _ P.flights _ (λ flight. zero-all _ (stretches col flight) _ (λ s. distance-zero k.relation (dwell_of s) k.limit)))

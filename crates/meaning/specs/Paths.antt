@@ -1,6 +1,6 @@
 -- Laws of neighbours and of joined regions.
 -- Assumes nothing.
-use Rattle.std.specs.Prelude.{ℕ, ◌≡◌, refl, List, ◌∷◌}
+use Rattle.std.specs.Prelude.{ℕ, ◌≡◌, refl, List, [], ◌∷◌}
 use Rattle.std.proofs.Common.{arith, sym, ◌∙◌, inl, inr}
 use Rattle.lists.specs.Sums.{In, at, Every}
 use Rattle.lists.specs.SumLaws.{every_turn}
@@ -17,12 +17,14 @@ limits_ends P l = every_turn (λ e h. omega arith) P.edges l.edge
 
 -- if w is a neighbour of u, then u is one of w
 pub neighbours_sym : (edges : List Edge) (u w : ℕ) → Neighbours edges u w → Neighbours edges w u
+neighbours_sym [] u w h = elim h [ ]
 neighbours_sym (e ∷ es) u w (inl h) = inr (inl (h.1, h.0))
 neighbours_sym (e ∷ es) u w (inr (inl h)) = inl (h.1, h.0)
 neighbours_sym (e ∷ es) u w (inr (inr h)) = inr (inr (neighbours_sym es u w h))
 
 -- a region that has a neighbour is one of 1..R
 pub neighbours_in : {R : ℕ} (edges : List Edge) (u w : ℕ) → Ends R edges → Neighbours edges u w → In R u
+neighbours_in {R = R} [] u w i h = elim h [ ]
 neighbours_in (e ∷ es) u w i (inl h) = rw h.0 i.0.0
 neighbours_in (e ∷ es) u w i (inr (inl h)) = rw h.0 i.0.1
 neighbours_in (e ∷ es) u w i (inr (inr h)) = neighbours_in es u w i.1 h

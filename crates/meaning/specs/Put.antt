@@ -3,7 +3,7 @@
 use Rattle.std.specs.Prelude.{ℕ, ◌≤◌, ◌≡◌, refl, List, ◌≢◌, ◌↔◌, length}
 use Rattle.std.proofs.Common.{arith, sym, ap, ◌∙◌, length-set}
 use Rattle.std.proofs.Math.Decide.{ℕ_discrete}
-use Rattle.std.proofs.Math.Logic.{Iff·rfl}
+use Rattle.std.proofs.Math.Logic.Iff
 use Rattle.lists.specs.Sums.{In, at}
 use Rattle.lists.specs.Places.{at_set, at_set_other}
 use Rattle.meaning.specs.Plan.{Edge}
@@ -59,7 +59,7 @@ module _ {R : ℕ} {c0 c1 : List ℕ} {v d : ℕ} (p : Put R c0 c1 v d) where
 
   -- two regions other than v share a sector in both colourings or in neither
   alike : {u w : ℕ} → In R u → In R w → u ≢ v → w ≢ v → (at c0 u ≡ at c0 w) ↔ (at c1 u ≡ at c1 w)
-  alike {u} {w} i j nu nw = rw (p.stay u i nu, p.stay w j nw) Iff·rfl
+  alike {u} {w} i j nu nw = rw (p.stay u i nu, p.stay w j nw) Iff.rfl
 
 module _ {R : ℕ} {edges : List Edge} {c0 c1 : List ℕ} {v d : ℕ} (ends : Ends R edges) (p : Put R c0 c1 v d) where
   -- what is joined with v lifted out is joined with v put in

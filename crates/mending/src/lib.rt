@@ -75,7 +75,7 @@ fn sector_given(edges: &[u64], colouring: &[u64], region: Region) -> Sector
 // The sector of a region in the mended colouring.
 fn sector_mended(edges: &[u64], colouring: &[u64], region: Region) -> Sector
     requires ends { Ends (length colouring.now) (edges_of edges.now) }
-    requires fact { In (length colouring.now) region.0 }
+    requires in_range { In (length colouring.now) region.0 }
     ensures { result.0 ≡ sector_mended (edges_of edges.now) colouring.now region.0 }
 {
     let i = region.0 as usize - 1;

@@ -50,3 +50,4 @@ neighbours_near (e ∷ es) v x (inr (inl h)) =
 neighbours_near (e ∷ es) v x (inr (inr h)) =
     among_behind (eqb e.a v) e.b (when (eqb e.b v) e.a (near es v))
     (among_behind (eqb e.b v) e.a (near es v) (neighbours_near es v x h))
+neighbours_near [] v x x3 = elim x3 [ ]

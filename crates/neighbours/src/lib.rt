@@ -15,7 +15,7 @@ use terms::limits::EDGE_LENGTH;
 
 // Counts one edge more at a region.
 fn count_one(counts: &mut [u64], region: u64)
-    requires fact { In (length counts.old) region }
+    requires in_range { In (length counts.old) region }
     requires region_bound { at counts.old region < 2 ^ 63 }
     ensures { counts.new ≡ one_more counts.old region }
 {

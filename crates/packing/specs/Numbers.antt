@@ -126,6 +126,8 @@ length-unpack (w ∷ ws) bs = ap suc (length-unpack ws (drop w bs))
 pub length_fits : (ws xs : List ℕ) → Fits ws xs → length xs ≡ length ws
 length_fits [] [] h = refl
 length_fits (w ∷ ws) (x ∷ xs) h = ap suc (length_fits ws xs h.1)
+length_fits [] (x ∷ xs) h = elim h [ ]
+length_fits (w ∷ ws) [] h = elim h [ ]
 
 -- as many bytes are written as the widths have, if there is a number for each
 pub length-pack : (ws xs : List ℕ) → length ws ≤ length xs → length (pack ws xs) ≡ total ws
@@ -140,6 +142,8 @@ unpack-pack (w ∷ ws) (x ∷ xs) h =
     ap₂ (λ (a : ℕ) (l : List ℕ). a ∷ l)
     (ap val (take_at (le w x) (pack ws xs) w (length-le w x)) ∙ val-le w x h.0)
     (ap (unpack ws) (drop_at (le w x) (pack ws xs) w (length-le w x)) ∙ unpack-pack ws xs h.1)
+unpack-pack [] (x ∷ xs) h = elim h [ ]
+unpack-pack (w ∷ ws) [] h = elim h [ ]
 
 -- bytes are written as they were read
 pub pack-unpack : (ws bs : List ℕ) → length bs ≡ total ws → Bytes bs → pack ws (unpack ws bs) ≡ bs

@@ -18,6 +18,13 @@ use Rattle.reading.specs.Handing.{Room, HandedOver}
 -- all seven parts of a test that passes pass
 all_seven : (a b c d e f g : Bool) → T (a && b && c && d && e && f && g) → T a × (T b × (T c × (T d × (T e × (T f × T g)))))
 all_seven true true true true true true true t = (tt, (tt, (tt, (tt, (tt, (tt, tt))))))
+all_seven false b c d e f g t = elim t [ ]
+all_seven true false c d e f g t = elim t [ ]
+all_seven true true false d e f g t = elim t [ ]
+all_seven true true true false e f g t = elim t [ ]
+all_seven true true true true false f g t = elim t [ ]
+all_seven true true true true true false g t = elim t [ ]
+all_seven true true true true true true false t = elim t [ ]
 
 -- lists that are long enough have room
 pub enough_room : (h : Head) (w o e c v t s : ℕ) {b : Bool} → b ≡ enough h w o e c v t s → b ≡ true → Room h w o e c v t s

@@ -6,7 +6,7 @@ pub mod fronts; // fronts.rt: the call and writing on the first records of an ar
 
 // What is asked of a plan, as four numbers: a record that is against its rules is refused as its numbers are.
 #[repr(C)]
-#[derive(Drop)]
+#[derive(Clone, Copy)]
 pub struct Constraint {
     pub kind: u64,
     pub relation: u64,

@@ -38,6 +38,7 @@ eights-none (r ∷ rs) t = go (eqb r.code 8) r.given refl t (eights-none rs)
         → but_eight (cond g (refused r.code r.place) (refusal rs)).code ≡ 0
     go true true e u rest = rw e
     go true false e u rest = rest u
+    go false g e u rest = elim u [ ]
 
 -- rows of other codes, and then rows of which none is given, give the code that they give before any rows of code 8, but 8
 rows_but_eight : (rows any right : List Row) → T (others rows) → T (eights any) → Passed right → (refusal (rows ++ right)).code ≡ but_eight (refusal (rows ++ any)).code
@@ -49,6 +50,7 @@ rows_but_eight (r ∷ rs) any right t u p = go (eqb r.code 8) r.given refl t (λ
         → (cond g (refused r.code r.place) (refusal (rs ++ right))).code ≡ but_eight (cond g (refused r.code r.place) (refusal (rs ++ any))).code
     go false true e v rest = rw e
     go false false e v rest = rest v
+    go true g e v rest = elim v [ ]
 
 -- ---- the rows on a plan and its colouring
 

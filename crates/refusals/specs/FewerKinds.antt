@@ -12,10 +12,17 @@ use Rattle.refusals.specs.Passed.{Passed, passed, all_five, in_limits, passed_ea
 -- where four tests pass, so they do with another first one that passes
 other_first : (a a' b c d : Bool) → T a' → T (a && b && c && d) → T (a' && b && c && d)
 other_first true true true true true h t = tt
+other_first false _ b c d h t = elim t [ ]
+other_first true false b c d h t = elim h [ ]
+other_first true true false c d h t = elim t [ ]
+other_first true true true false d h t = elim t [ ]
+other_first true true true true false h t = elim t [ ]
 
 -- two tests that pass do so together
 both_pass : (a b : Bool) → T a → T b → T (a && b)
 both_pass true true s t = tt
+both_pass false b s t = elim s [ ]
+both_pass true false s t = elim t [ ]
 
 -- one of fewer kinds is one of more
 within_more : {few most : ℕ} → few ≤ most → (x : ℕ) → T (within 1 x few) → T (within 1 x most)

@@ -92,10 +92,17 @@ refusal-each (r ∷ rs) Q q e = go r.given refl (refusal-each rs Q q e.1)
 -- both parts of it pass
 pub both : (a b : Bool) → T (a && b) → T a × T b
 both true true t = (tt, tt)
+both false b t = elim t [ ]
+both true false t = elim t [ ]
 
 -- all five parts of it pass
 pub all_five : (a b c d e : Bool) → T (a && b && c && d && e) → T a × (T b × (T c × (T d × T e)))
 all_five true true true true true t = (tt, (tt, (tt, (tt, tt))))
+all_five false b c d e t = elim t [ ]
+all_five true false c d e t = elim t [ ]
+all_five true true false d e t = elim t [ ]
+all_five true true true false e t = elim t [ ]
+all_five true true true true false t = elim t [ ]
 
 within-limits : (low x high : ℕ) → T (within low x high) → (low ≤ x) × (x ≤ high)
 within-limits low x high t = let p = both (leb low x) (leb x high) t in (leb→le low x p.0, leb→le x high p.1)
@@ -160,6 +167,7 @@ module _ (right : ℕ → Bool) where
     where
       go : (b : Bool) → T b → off_from (suc k) n right ≡ 0 → cond b (off_from (suc k) n right) (suc k) ≡ 0
       go true t z = z
+      go false t z = elim t [ ]
 
   -- where each item is right, the row is not given
   pub each_passed : (n : ℕ) → ((k : ℕ) → k < n → T (right k)) → not (eqb (first_off n right) 0) ≡ false

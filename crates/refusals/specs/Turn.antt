@@ -35,12 +35,14 @@ coded_first r rs t = go (eqb r.code 0) refl t
   where
     go : (b : Bool) → eqb r.code 0 ≡ b → T (not b && coded rs) → (r.code ≡ 0 → ⊥)
     go false e t = eqb-false r.code 0 e
+    go true e t = elim t [ ]
 
 pub coded_rest : (r : Row) (rs : List Row) → T (coded (r ∷ rs)) → T (coded rs)
 coded_rest r rs t = go (eqb r.code 0) t
   where
     go : (b : Bool) → T (not b && coded rs) → T (coded rs)
     go false t = t
+    go true t = elim t [ ]
 
 -- ---- a table in turn
 

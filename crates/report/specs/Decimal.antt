@@ -11,7 +11,7 @@ use borrow.Author.Tests.{ltb-true, ltb-false, lt-ltb}
 use Rattle.std.proofs.Math.Dec.{ltb}
 use Rattle.lists.specs.Sums.{Every}
 use Rattle.lists.specs.SumLaws.{every_append}
-use Rattle.io.specs.Digits.{last_digits, IsDigitCount}
+use Rattle.report.specs.Digits.{last_digits, IsDigitCount}
 
 -- the ASCII code of a digit of 0..9
 abbrev pub digit : ℕ → ℕ

@@ -2,7 +2,7 @@
 -- Assumes nothing.
 use Rattle.std.specs.Prelude.{ℕ, ◌+◌, ◌≤◌, ◌≡◌, List, [], ◌++◌, length, drop}
 use Rattle.std.proofs.Common.{arith, sym, ap, ap₂, ◌∙◌, length-append, length-take-le}
-use Rattle.io.specs.Counts.{IsPrefixLen}
+use Rattle.std.specs.Counts.{IsPrefixLen}
 use Rattle.packing.specs.Put.{put, length-put, put-none, put-put}
 
 -- s has room in d from index `at`; there it was put, which gives the list `left`; and it ends at `end`

@@ -112,7 +112,7 @@ pub fn put_verdicts(constraints: &[u64], verdicts: &[u64], total: u64, text: &mu
     requires constraint_length_in_bounds { verdict_length * (length constraints.now / constraint_length) ≤ length verdicts.now }
     requires most_text_in_bounds { most_text ≤ length text.old }
     ensures prefix_len { IsPrefixLen result text.new }
-    ensures fact { let t = verdict_text constraints.now verdicts.now total in (result ≡ length t) × (text.new ≡ t ++ drop (length t) text.old) }
+    ensures text_after { let t = verdict_text constraints.now verdicts.now total in (result ≡ length t) × (text.new ≡ t ++ drop (length t) text.old) }
 {
     let n = constraints.len() / CONSTRAINT_LENGTH;
     let mut end = 0;
@@ -138,7 +138,7 @@ pub fn put_refused(text: &mut [u8], at: usize, code: u64, place: u64) -> usize
 pub fn put_refusal(code: u64, place: u64, text: &mut [u8]) -> usize
     requires { most_text ≤ length text.old }
     ensures prefix_len { IsPrefixLen result text.new }
-    ensures fact { let t = refused_text code place in (result ≡ length t) × (text.new ≡ t ++ drop (length t) text.old) }
+    ensures text_after { let t = refused_text code place in (result ≡ length t) × (text.new ≡ t ++ drop (length t) text.old) }
 {
     put_refused(text, 0, code, place)
 }

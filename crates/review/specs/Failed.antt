@@ -6,7 +6,7 @@ use Rattle.std.proofs.Common.{arith, ◌∙◌, eqb-true, eq-eqb, ne_eqb}
 use Rattle.std.specs.Prelude.{◌≡◌, refl, Bool, true, false, ◌&&◌, List, ◌↔◌, get_or}
 use Rattle.std.proofs.Math.Path.{sym, ap}
 use Rattle.std.proofs.Math.Bool.{not}
-use Rattle.std.proofs.Math.Logic.{Iff·trans}
+use Rattle.std.proofs.Math.Logic.Iff
 use Rattle.std.proofs.lemmas.Bool.{eqb-false}
 use Rattle.std.proofs.Math.Dec.{eqb}
 use Rattle.std.proofs.Math.ListN.{length}
@@ -152,14 +152,14 @@ module _ (sheet : List ℕ) (z : code sheet ≡ 0) where
       let hold = zero-each (λ c. holds P col c ≡ true) P.constraints (λ c. bit (not (holds P col c))) (every_all _ (λ c. failed_zero (holds P col c)) P.constraints) in
       let weigh = every_turn (λ c h. h.weight.low) P.constraints (limits-held sheet (sym (judgement-code sheet) ∙ z)) in
       let said : total_of sheet ≡ total P col = ap (λ (j : Judgement). j.total) (sound-judged sheet z) in
-      rw (said, broken-meant) (Iff·trans (total-zero P col weigh) (hold.1, hold.0))
+      rw (said, broken-meant) (Iff.trans (total-zero P col weigh) (hold.1, hold.0))
 
 -- ---- a total of zero
 
 -- a sheet has total zero exactly where it is read soundly and none of its constraints fails
 pub zero-none_failed : (sheet : List ℕ) → zero_total sheet ≡ true ↔ ((code sheet ≡ 0) × (broken_in sheet ≡ 0))
 zero-none_failed sheet =
-    Iff·trans (eqb_both (code sheet) 0 (total_of sheet) 0)
+    Iff.trans (eqb_both (code sheet) 0 (total_of sheet) 0)
     (λ p. (p.0, (total-zero-broken sheet p.0).0 p.1), λ p. (p.0, (total-zero-broken sheet p.0).1 p.1))
 
 -- it is read soundly, and its total is not zero
@@ -172,8 +172,8 @@ above-broken sheet = go (sound sheet) refl
   where
     go : (b : Bool) → sound sheet ≡ b → bit (b && not (eqb (total_of sheet) 0)) ≡ 0 ↔ broken_in sheet ≡ 0
     go true e =
-        Iff·trans (failed_zero (eqb (total_of sheet) 0))
-        (Iff·trans (eqb-true (total_of sheet) 0, eq-eqb (total_of sheet) 0) (total-zero-broken sheet (eqb-true (code sheet) 0 e)))
+        Iff.trans (failed_zero (eqb (total_of sheet) 0))
+        (Iff.trans (eqb-true (total_of sheet) 0, eq-eqb (total_of sheet) 0) (total-zero-broken sheet (eqb-true (code sheet) 0 e)))
     go false e = (λ y. none-broken sheet (eqb-false (code sheet) 0 e), λ y. refl)
 
 -- every sheet that is read soundly has total zero exactly where all numbers of the kinds are 0
@@ -182,7 +182,7 @@ unfolding review_of
 all-zero sheets =
     let each = zero-each (λ s. broken_in s ≡ 0) sheets (λ s. bit (above_zero s)) (every_all _ above-broken sheets) in
     let all = zero-each (λ s. broken_in s ≡ 0) sheets broken_in (every_all _ (λ s. (λ e. e, λ e. e)) sheets) in
-    rw (failed_all sheets) (Iff·trans none_above (Iff·trans each (all.1, all.0)))
+    rw (failed_all sheets) (Iff.trans none_above (Iff.trans each (all.1, all.0)))
   where
     split : count sheets zero_total + count sheets above_zero ≡ count sheets sound
     split = count_split sound (λ s. eqb (total_of s) 0) sheets

@@ -40,9 +40,11 @@ module _ (before : ℕ → ℕ → Bool) where
   -- so the total goes by the sheets that are read soundly
   alike-passing : {x y : Extreme} (p q : ℕ) (ss : List (List ℕ)) → Alike x y → Alike (extreme_from before x (suc p) (passing sound ss)) (extreme_from before y (suc q) ss)
   unfolding passing extreme_from
-  alike-passing p q [] a = a
-  alike-passing {x} {y} p q (s ∷ ss) a =
-      go (sound s) refl (alike-passing (suc p) (suc q) ss (alike-better (total_of s) p q a)) (alike-passing p (suc q) ss a)
+  alike-passing {x = x} {y = y} p q [] a = a
+  alike-passing {x = x} {y = y} p q (s ∷ ss) a =
+      go (sound s) refl
+      (alike-passing {x = better before x (total_of s) (suc p)} {y = better before y (total_of s) (suc q)} (suc p) (suc q) ss (alike-better (total_of s) p q a))
+      (alike-passing {x = x} {y = y} p (suc q) ss a)
     where
       rest : List (List ℕ)
       rest = passing sound ss

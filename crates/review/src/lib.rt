@@ -36,7 +36,7 @@ pub const MOST_TEXT: usize = (7 + KINDS) * MOST_NUMBER + MOST_REFUSED;
 const TORN: u64 = 18;
 
 // A smallest or largest total, and the place of the first sheet that has it; place 0 where there is none.
-#[derive(Drop)]
+#[derive(Clone, Copy)]
 pub struct Extreme {
     pub total: u64,
     pub place: u64,
@@ -205,7 +205,7 @@ fn put_figures(review: Review, text: &mut [u8]) -> usize
 pub fn put_reviewed(reviewed: Reviewed, text: &mut [u8]) -> usize
     requires { most_review_text ≤ length text.old }
     ensures prefix_len { IsPrefixLen result text.new }
-    ensures fact { let t = review_text reviewed in (result ≡ length t) × (text.new ≡ t ++ drop (length t) text.old) }
+    ensures text_after { let t = review_text reviewed in (result ≡ length t) × (text.new ≡ t ++ drop (length t) text.old) }
 {
     let torn = reviewed.torn;
     let end = put_figures(reviewed.review, text);

@@ -109,8 +109,8 @@ module _ (lent : Bor (List ℕ)) (a : lent.now ≡ bytes_a) where
   part_of_head q k = omega (arith, starts 1 q k ∙ ap (λ (e : Extent). e.from) workloads_part)
 
   -- nor the right bytes in other memory
-  part_copied : (block offset name : ℕ) → (block ≡ lent.ref_ptr.0 → ⊥) → Promise lent 1 (record { ref_ptr = (block, offset); ghost_name = name; now = shown bytes_a 1 }) → ⊥
-  part_copied block offset name apart k = apart (ap (λ (x : ℕ × ℕ). x.0) k.part.lies)
+  part_copied : (block offset : ℕ) → (block ≡ lent.ref_ptr.0 → ⊥) → Promise lent 1 (record { ref_ptr = (block, offset); now = shown bytes_a 1 }) → ⊥
+  part_copied block offset apart k = apart (ap (λ (x : ℕ × ℕ). x.0) k.part.lies)
 
   -- `show` does not show the header of block 1 with its payload
   show_with_header : {p : Bor (List ℕ)} → PartOf lent (record { from = 512; length = 30 }) p → Promise lent 1 p → ⊥

@@ -69,13 +69,13 @@ numbers = map pos
 abbrev minus : ℕ → ℤ
 minus n = neg_ℤ (pos n)
 
-infix 2 ◌is◌ ◌is-signed◌
-abbrev ◌is-signed◌ : List ℤ → List ℤ → Case
-found is_Signed due = record { found = found; due = due }
+infix 2 ◌is◌ ◌is_signed◌
+abbrev ◌is_signed◌ : List ℤ → List ℤ → Case
+found is_signed due = record { found = found; due = due }
 
 -- where no number is below 0
 abbrev ◌is◌ : List ℤ → List ℕ → Case
-found is due = found is_Signed numbers due
+found is due = found is_signed numbers due
 
 -- the rows of moves on sheet A's colouring, three numbers a move
 rows_on : Plan → List ℕ → List ℤ
@@ -108,7 +108,7 @@ of_sheet_a =
 -- with region 3 back in sector 1 the colouring, and so the labels and the total, are those of the start: either delta is 15 - 126, and the same 3 regions are relabelled
 of_way_back : List Case
 of_way_back =
-    (rows_on plan_a (2 ∷ 3 ∷ 2 ∷ 1 ∷ 3 ∷ 1 ∷ 2 ∷ 3 ∷ 1 ∷ []) is_Signed
+    (rows_on plan_a (2 ∷ 3 ∷ 2 ∷ 1 ∷ 3 ∷ 1 ∷ 2 ∷ 3 ∷ 1 ∷ []) is_signed
     (pos 0 ∷ pos 111 ∷ pos 126 ∷ pos 3 ∷ pos 0 ∷ minus 111 ∷ pos 126 ∷ pos 0 ∷ pos 0 ∷ minus 111 ∷ pos 15 ∷ pos 3 ∷ []))
     ∷ []
 

@@ -18,7 +18,7 @@ pub fn in_limits(low: u64, x: u64, high: u64) -> bool
     x <= high
 }
 
-#[derive(Drop)]
+#[derive(Clone, Copy)]
 pub struct Region(pub u64);
 
 #[derive(Drop)]
@@ -38,7 +38,7 @@ impl Region {
     }
 }
 
-#[derive(Drop)]
+#[derive(Clone, Copy)]
 pub struct Sector(pub u64);
 
 #[derive(Drop)]
@@ -58,7 +58,7 @@ impl Sector {
     }
 }
 
-#[derive(Drop)]
+#[derive(Clone, Copy)]
 pub struct Relation {
     pub code: u64,
 }
@@ -158,7 +158,7 @@ pub fn relation_of(code: u64) -> Relation
 }
 
 // What three numbers ask for: a recolouring or an exchange, probed or made, a region's violation, or nothing that can be had.
-#[derive(Drop)]
+#[derive(Clone, Copy)]
 pub enum Move {
     Recolour {
         make: bool,

@@ -71,19 +71,19 @@ fn turn(
     rows: &mut [i64],
     standing: Standing,
 ) -> Standing
-    ghost { Plan }
-    requires* constraints_value { λ P. ⌜ plan_of (length workloads.now) sectors workloads.now outside.now edges.now counts.now visits.now constraints.now ≡ P ⌝ }
-    requires* fact { λ P. ⌜ Sorted P shared.now limited.now × (weights ≡ weights_of P.constraints) ⌝ }
-    requires* fact_2 { λ P. ⌜ Remembered P.R P.S P.edges colouring.old k known.old ⌝ }
-    requires* k_bound { λ P. ⌜ k < most_moves ⌝ }
-    requires* fact_3 { λ P. ⌜ Setting P whole start.now near.now areas.now queue.old ⌝ }
-    requires* fact_4 { λ P. ⌜ Ready P colouring.old work.old prices.old standing ⌝ }
-    requires* move_length_in_bounds { λ P. ⌜ move_length * k + move_length ≤ length moves.now ⌝ }
-    requires* row_length_in_bounds { λ P. ⌜ row_length * k + row_length ≤ length rows.old ⌝ }
-    requires* fact_5 { λ P. ⌜ Flown P timed.now counts.now visits.now visited.now flights.now firsts.now ⌝ }
-    ensures* fact_6 { λ P r. ⌜ Remembered P.R P.S P.edges (next colouring.old (move_at P moves.now k)) (k + 1) known.new ⌝ }
-    ensures* fact_7 { λ P r. ⌜ Opened P (next colouring.old (move_at P moves.now k)) work.old colouring.new work.new prices.new r ⌝ }
-    ensures* rows_after { λ P r. ⌜ rows.new ≡ sets rows.old (row_length * k) (cells (row P colouring.old (move_at P moves.now k))) ⌝ }
+    ghost P: { Plan }
+    requires constraints_value { plan_of (length workloads.now) sectors workloads.now outside.now edges.now counts.now visits.now constraints.now ≡ P }
+    requires sorted { Sorted P shared.now limited.now × (weights ≡ weights_of P.constraints) }
+    requires remembered { Remembered P.R P.S P.edges colouring.old k known.old }
+    requires k_bound { k < most_moves }
+    requires setting { Setting P whole start.now near.now areas.now queue.old }
+    requires ready { Ready P colouring.old work.old prices.old standing }
+    requires move_length_in_bounds { move_length * k + move_length ≤ length moves.now }
+    requires row_length_in_bounds { row_length * k + row_length ≤ length rows.old }
+    requires flown { Flown P timed.now counts.now visits.now visited.now flights.now firsts.now }
+    ensures remembered { Remembered P.R P.S P.edges (next colouring.old (move_at P moves.now k)) (k + 1) known.new }
+    ensures opened { Opened P (next colouring.old (move_at P moves.now k)) work.old colouring.new work.new prices.new result }
+    ensures rows_after { rows.new ≡ sets rows.old (row_length * k) (cells (row P colouring.old (move_at P moves.now k))) }
 {
     let at = MOVE_LENGTH * k;
     let asked = Move::new(
@@ -160,16 +160,16 @@ pub fn all_moves(
     rows: &mut [i64],
     first: Standing,
 ) -> Standing
-    ghost { Plan }
-    requires* constraints_value { λ P. ⌜ plan_of (length workloads.now) sectors workloads.now outside.now edges.now counts.now visits.now constraints.now ≡ P ⌝ }
-    requires* fact { λ P. ⌜ Sorted P shared.now limited.now ⌝ }
-    requires* move_length_bound { λ P. ⌜ length moves.now / move_length ≤ most_moves ⌝ }
-    requires* fact_2 { λ P. ⌜ Setting P whole start.now near.now areas.now queue.old ⌝ }
-    requires* fact_3 { λ P. ⌜ Ready P colouring.old work.old prices.old first ⌝ }
-    requires* move_length_in_bounds { λ P. ⌜ row_length * (length moves.now / move_length) ≤ length rows.old ⌝ }
-    requires* fact_4 { λ P. ⌜ Flown P timed.now counts.now visits.now visited.now flights.now firsts.now ⌝ }
-    ensures* fact_5 { λ P r. ⌜ Opened P (last colouring.old (moves_of P moves.now)) work.old colouring.new work.new prices.new r ⌝ }
-    ensures* rows_after { λ P r. ⌜ rows.new ≡ meaning.rows P colouring.old (moves_of P moves.now) ++ drop (row_length * (length moves.now / move_length)) rows.old ⌝ }
+    ghost P: { Plan }
+    requires constraints_value { plan_of (length workloads.now) sectors workloads.now outside.now edges.now counts.now visits.now constraints.now ≡ P }
+    requires sorted { Sorted P shared.now limited.now }
+    requires move_length_bound { length moves.now / move_length ≤ most_moves }
+    requires setting { Setting P whole start.now near.now areas.now queue.old }
+    requires ready { Ready P colouring.old work.old prices.old first }
+    requires move_length_in_bounds { row_length * (length moves.now / move_length) ≤ length rows.old }
+    requires flown { Flown P timed.now counts.now visits.now visited.now flights.now firsts.now }
+    ensures opened { Opened P (last colouring.old (moves_of P moves.now)) work.old colouring.new work.new prices.new result }
+    ensures rows_after { rows.new ≡ meaning.rows P colouring.old (moves_of P moves.now) ++ drop (row_length * (length moves.now / move_length)) rows.old }
 {
     let n = moves.len() / MOVE_LENGTH;
     if n == 0 {

@@ -111,7 +111,7 @@ pub fn price_visitors(
     region: u64,
 ) -> u64
     requires pricing { Pricing (length colouring.now) timed.now counts.now visits.now starts.now numbers.now firsts.now }
-    requires fact { In (length colouring.now) region }
+    requires in_range { In (length colouring.now) region }
     ensures { result ≡ visitors_price (constraints_of timed.now) colouring.now false region (flights_of counts.now visits.now) }
 {
     if timed.len() == 0 {
@@ -147,7 +147,7 @@ fn price_cell_both(
 ) -> Prices
     requires paying { Paying timed.now }
     requires numbered { Numbered (length colouring.now) counts.now visits.now number first }
-    requires fact { In (length colouring.now) region }
+    requires in_range { In (length colouring.now) region }
     ensures { CellsDiffer timed.now counts.now visits.now colouring.now region sector number first last result }
 {
     if number == last {
@@ -176,7 +176,7 @@ pub fn price_both(
     sector: u64,
 ) -> Prices
     requires pricing { Pricing (length colouring.now) timed.now counts.now visits.now starts.now numbers.now firsts.now }
-    requires fact { In (length colouring.now) region }
+    requires in_range { In (length colouring.now) region }
     ensures { VisitorsDiffer (constraints_of timed.now) colouring.now region sector (flights_of counts.now visits.now) result }
 {
     if timed.len() == 0 {

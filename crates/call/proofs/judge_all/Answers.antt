@@ -1,0 +1,49 @@
+-- The first judgement readies the memory for the moves, which leave it as a judgement of the last colouring would; the verdicts and T are made of its figures.
+use native.Mathlib.Omega.{arith}
+use mathlib.Core.Path.{refl, ◌∙◌}
+use lib.ListN.{length-set}
+use Rattle.turns.specs.StateLaws.{setting_queue, opened_ready}
+use Rattle.turns.specs.Taken.{moved_ready}
+use Rattle.call.specs.Concluding.{ready_concluding}
+use Rattle.call.specs.Promised.{ran_by}
+use Rattle.call.proofs.judge_all.Goals as goal
+
+pub begin-first-requires : goal.begin-first-requires
+begin-first-requires c = (c.requires.sorted, (c.requires.setting, (c.requires.opening, c.requires.flown.priced)))
+
+pub all_moves-last-requires : goal.all_moves-last-requires
+all_moves-last-requires c =
+    let ready = opened_ready c.requires.valid.plan.limits c.requires.valid.plan.coloured c.begin-first.ensures c.requires.opening.room in
+    (c.requires.sorted, (c.requires.valid.moves_few, (setting_queue c.requires.setting c.begin-first.auto.1.1.1.1.1.1.1.1.1.1.1.1.1.1.1.1.1.0, (ready, (c.requires.valid.rows_room, c.requires.flown)))))
+
+pub overflow_add-counts_end : goal.overflow_add-counts_end
+overflow_add-counts_end c = omega (arith, c.requires.valid.plan.limits.S, c.requires.valid.plan.limits.R)
+
+pub overflow_add-at : goal.overflow_add-at
+overflow_add-at c = omega (arith, c.requires.valid.plan.limits.S, c.requires.valid.plan.limits.R)
+
+pub offset_bounds-work-counts_end : goal.offset_bounds-work-counts_end
+offset_bounds-work-counts_end c = omega (arith, c.requires.valid.plan.limits.S, c.requires.valid.plan.limits.R)
+
+pub slice_bounds-conclude-end : goal.slice_bounds-conclude-end
+slice_bounds-conclude-end c = omega (arith, c.all_moves-last.kept.work, c.begin-first.kept.work, c.requires.valid.work_room)
+
+pub conclude-requires : goal.conclude-requires
+conclude-requires c =
+    let ready = opened_ready c.requires.valid.plan.limits c.requires.valid.plan.coloured c.begin-first.ensures c.requires.opening.room in
+record { concluding = ready_concluding c.requires.valid.plan.limits (moved_ready c.args.moves.now c.requires.valid.plan.limits ready c.all_moves-last.ensures.opened) c.args.constraints.now refl c.requires.flown.priced.flying; constraints_in_bounds = c.requires.valid.verdicts_room }
+
+pub offset_bounds-work-at : goal.offset_bounds-work-at
+offset_bounds-work-at c = omega (arith, c.requires.valid.plan.limits.S, c.requires.valid.plan.limits.R)
+
+pub bounds-work-at : goal.bounds-work-at
+bounds-work-at c = omega (arith, c.all_moves-last.kept.work, c.begin-first.kept.work, c.requires.valid.work_room)
+
+pub shape_of-colouring : goal.shape_of-colouring
+shape_of-colouring c = c.all_moves-last.kept.colouring ∙ c.begin-first.kept.colouring
+
+pub shape_of-work : goal.shape_of-work
+shape_of-work c = simp length-set (c.all_moves-last.kept.work ∙ c.begin-first.kept.work)
+
+pub returns : goal.returns
+returns c = ran_by _ c.requires.valid c.begin-first.ensures c.all_moves-last.ensures.opened c.all_moves-last.ensures.rows_after c.conclude.ensures

@@ -1,0 +1,35 @@
+-- A region given to its own sector changes nothing; given to another, the colouring and the labels follow the change, and then all else.
+use native.Mathlib.Omega.{arith}
+use mathlib.Core.Path.{sym}
+use lib.Seq.{length-take-le}
+use Rattle.engine.specs.Memory.{kept-labels}
+use Rattle.engine.specs.Turning.{turning_placed, turning_sides}
+use Rattle.engine.specs.Settling.{followed_settling, followed_remade}
+use Rattle.engine.specs.Recolouring.{still_remade, recolouring-kept, recolouring_turning}
+use Rattle.engine.proofs.recolour.make.Goals as goal
+
+pub returns-then-own-sector : goal.returns-then-own-sector
+returns-then-own-sector c = still_remade c.requires.recolouring c.if-own-sector.true
+
+pub sides_in-before-requires : goal.sides_in-before-requires
+sides_in-before-requires c =
+    let k = c.before.before.before.before.before.before.before.before.before.before.before.before.before.before.before.before.before.before.before.before.before.before.before.requires.1.0 in
+    turning_placed (recolouring_turning k c.slice_known-4-1.false) (recolouring-kept k) k.ready.prices
+
+pub slice_bounds-turn-end : goal.slice_bounds-turn-end
+slice_bounds-turn-end c = omega (arith, c.requires.recolouring.ready.room)
+
+pub slice_bounds-turn-end-2 : goal.slice_bounds-turn-end-2
+slice_bounds-turn-end-2 c = sym (length-take-le _ c.args.work.now (omega (arith, c.requires.recolouring.ready.room)))
+
+pub turn-turned-requires : goal.turn-turned-requires
+turn-turned-requires c =
+    let t = recolouring_turning c.requires.recolouring c.slice_known-4-1.false in
+    let kept = recolouring-kept c.requires.recolouring in
+    (c.requires.sorted.limited, (t, (turning_sides t kept c.requires.recolouring.ready.prices c.sides_in-before.ensures, (kept-labels kept, c.requires.flown))))
+
+pub settle-settled-requires : goal.settle-settled-requires
+settle-settled-requires c = (c.requires.sorted.shared, followed_settling c.requires.recolouring.setting c.requires.recolouring.ready c.turn-turned.ensures.followed)
+
+pub returns : goal.returns
+returns c = followed_remade c.requires.recolouring.setting c.requires.recolouring.ready c.turn-turned.ensures.followed c.settle-settled.ensures.left c.settle-settled.ensures.r_value

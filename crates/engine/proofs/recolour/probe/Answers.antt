@@ -1,0 +1,23 @@
+-- A region given to its own sector leaves the total; given to another, the figures and the total follow the change.
+use mathlib.Core.Path.{refl}
+use Rattle.engine.specs.Sorted.{ready_paid}
+use Rattle.engine.specs.Changing.{ready_changing, changing_shifting, changing_totalling, total_changed}
+use Rattle.engine.specs.Recolouring.{still-total, recolouring-kept, recolouring_turning}
+use Rattle.engine.proofs.recolour.probe.Goals as goal
+
+pub returns-then-own-sector : goal.returns-then-own-sector
+returns-then-own-sector c = record { remembered = c.requires.remembered; r_value = still-total c.requires.recolouring c.if-own-sector.true; colouring_after = refl }
+
+pub change_at-change-requires : goal.change_at-change-requires
+change_at-change-requires c = (ready_paid c.requires.sorted c.requires.recolouring.ready, (c.requires.remembered, (recolouring_turning c.requires.recolouring c.if-own-sector.false, (recolouring-kept c.requires.recolouring, c.requires.flown))))
+
+pub figures_after-figures-requires : goal.figures_after-figures-requires
+figures_after-figures-requires c = changing_shifting (ready_changing c.requires.recolouring.setting c.requires.recolouring.ready c.colouring-1.ensures.1.0.changed)
+
+pub total-requires : goal.total-requires
+total-requires c = let r = changing_totalling (ready_changing c.requires.recolouring.setting c.requires.recolouring.ready c.colouring-1.ensures.1.0.changed) c.figures_after-figures.ensures c.requires.sorted.shared in record { small_figures = r.0; paying = r.1 }
+
+pub returns : goal.returns
+returns c =
+    let changing = ready_changing c.requires.recolouring.setting c.requires.recolouring.ready c.colouring-1.ensures.1.0.changed in
+record { remembered = c.colouring-1.ensures.0; r_value = total_changed changing c.figures_after-figures.ensures c.requires.sorted.shared c.total.ensures; colouring_after = c.colouring-1.ensures.1.1 }

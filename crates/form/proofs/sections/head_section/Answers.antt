@@ -1,0 +1,6 @@
+-- The head has one block, and it is full.
+use Rattle.form.specs.Listed.{section_head}
+use Rattle.form.proofs.sections.head_section.Goals as goal
+
+pub returns : goal.returns
+returns c = section_head c.result-1.form c.result-2-1.ensures

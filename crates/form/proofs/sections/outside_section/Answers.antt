@@ -1,0 +1,10 @@
+-- There are no more outside areas than regions.
+use native.Mathlib.Omega.{arith}
+use Rattle.form.specs.Listed.{few_outside}
+use Rattle.form.proofs.sections.outside_section.Goals as goal
+
+pub overflow_mul-result : goal.overflow_mul-result
+overflow_mul-result c = omega (arith, c.result-2-1.ensures, few_outside c.result-1.form c.result-1.head.regions)
+
+pub returns : goal.returns
+returns c = rw c.result-2-1.ensures

@@ -1,0 +1,17 @@
+-- The section has its blocks in the sheet and its room in the list, and its numbers are the visit counts.
+use native.Mathlib.Omega.{arith}
+use Rattle.form.specs.FormLaws.{bounded, laid_ones}
+use Rattle.holding.specs.ReadLaws.{section_asks, section-read}
+use Rattle.holding.proofs.sections.read_counts.Goals as goal
+
+pub count_section-requires : goal.count_section-requires
+count_section-requires c = (bounded _ c.requires.has_blocks.0.limits).flights
+
+pub counts_at-requires : goal.counts_at-requires
+counts_at-requires c = bounded _ c.shared_slice_known-1.0.0.limits
+
+pub read_section-requires : goal.read_section-requires
+read_section-requires c = let r = section_asks (laid_ones 7 _) c.read_section-arg-1.ensures c.shared_slice_known-1.0 c.shared_slice_known-1.1 c.counts_at.ensures (omega arith) (omega arith) in record { whole = r.0; section_in_bounds = r.1.0; widths_in_bounds = r.1.1 }
+
+pub returns : goal.returns
+returns c = let r = section-read (laid_ones 7 _) c.read_section-arg-1.ensures c.shared_slice_known-1.sheet.now c.shared_slice_known-1.held.now c.shared_slice_known-1.1 c.counts_at.ensures TODO_c.read-section.ensures in record { value = r.0; held_after = r.1 }

@@ -1,0 +1,17 @@
+-- The section has its blocks in the sheet and its room in the list, and its numbers are those of the edges.
+use native.Mathlib.Omega.{arith}
+use Rattle.form.specs.FormLaws.{bounded, laid_edges}
+use Rattle.holding.specs.ReadLaws.{section_asks, section-read}
+use Rattle.holding.proofs.sections.read_edges.Goals as goal
+
+pub edge_section-requires : goal.edge_section-requires
+edge_section-requires c = (bounded _ c.requires.has_blocks.0.limits).edges
+
+pub edges_at-requires : goal.edges_at-requires
+edges_at-requires c = bounded _ c.shared_slice_known-1.0.0.limits
+
+pub read_section-requires : goal.read_section-requires
+read_section-requires c = let r = section_asks (laid_edges _) c.read_section-arg-1.ensures c.shared_slice_known-1.0 c.shared_slice_known-1.1 c.edges_at.ensures (omega arith) (omega arith) in record { whole = r.0; section_in_bounds = r.1.0; widths_in_bounds = r.1.1 }
+
+pub returns : goal.returns
+returns c = let r = section-read (laid_edges _) c.read_section-arg-1.ensures c.shared_slice_known-1.sheet.now c.shared_slice_known-1.held.now c.shared_slice_known-1.1 c.edges_at.ensures TODO_c.read-section.ensures in record { value = r.0; held_after = r.1 }

@@ -1,0 +1,28 @@
+-- The sum so far and that of the workloads left make the whole sum, which fits.
+use Prim.Native.Nat.{◌-◌}
+use native.Mathlib.Omega.{arith}
+use lib.Seq.{drop-cons}
+use Rattle.lists.specs.Few.{few_at}
+use Rattle.lists.specs.Loops.{summed_start, summed_room, summed_turn, summed_end}
+use Rattle.judge.specs.Small.{distances_small}
+use Rattle.judge.proofs.measures.distances.Goals as goal
+
+pub loop-i-init : goal.loop-i-init
+loop-i-init c = summed_start
+
+pub distance-sum-requires : goal.distance-sum-requires
+distance-sum-requires c = omega (arith, few_at c.requires.few c.loop-i.i)
+
+pub overflow_add-sum : goal.overflow_add-sum
+overflow_add-sum c =
+    omega (
+      arith,
+      summed_room c.loop-i.invariant (drop-cons _ c.loop-i.i 0 c.loop-i-test.true) c.distance-sum.ensures,
+      distances_small c.requires.few c.args.relation.code c.requires.limit_le_most_limit,
+    )
+
+pub loop-i-preserved : goal.loop-i-preserved
+loop-i-preserved c = summed_turn c.loop-i.invariant (drop-cons _ c.loop-i.i 0 c.loop-i-test.true) c.distance-sum.ensures
+
+pub returns : goal.returns
+returns c = summed_end c.loop-i.invariant c.loop-i-test.false

@@ -1,0 +1,13 @@
+-- The price so far and that by the constraints left make the whole price, which fits.
+use Prim.Native.Nat.{◌-◌, ◌/◌}
+use lib.ListN.{length}
+use Rattle.lists.specs.Loops.{Summed}
+use Rattle.meaning.specs.Plan.{constraint_length, constraints_of}
+use Rattle.kinds.specs.Paid.{price_by}
+use Rattle.kinds.proofs.price.Given as goal
+
+abbrev pub invariant-loop-k : goal.invariant-loop-k
+invariant-loop-k l = Summed (constraints_of l.constraints) (price_by l.x) l.k l.sum
+
+abbrev pub decreases-loop-k : goal.decreases-loop-k
+decreases-loop-k l = length l.constraints / constraint_length - l.k

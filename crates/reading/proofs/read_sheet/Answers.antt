@@ -1,0 +1,38 @@
+-- Each way out is the refusal that its step gives, or none is and what is held is handed over.
+use native.Mathlib.Omega.{arith}
+use mathlib.Core.Path.{◌≡◌, ap, ◌∙◌}
+use borrow.Author.Tests.{not-true, not-false}
+use lib.ListN.{length}
+use Rattle.form.specs.declared.Form.{Form}
+use Rattle.form.specs.Form.{head_in, head_by}
+use Rattle.holding.specs.HeldLaws.{holds_head, holds-bounded}
+use Rattle.reading.specs.Promise.{Input, input}
+use Rattle.reading.specs.ReadLaws.{enough_room, promise_refused, promise_short, promise_held}
+use Rattle.reading.proofs.read_sheet.Goals as goal
+use Rattle.reading.proofs.read_sheet.Goals.{After-head_in-head, Start}
+
+-- what reading is given
+abbrev given : (c : Start) → Input
+given c = input c.args.sheet.now c.args.workloads.now c.args.outside.now c.args.edges.now c.args.counts.now c.args.visits.now c.args.constraints.now c.args.colouring.now
+
+-- the head is that of the sheet as its letters have it
+head : (c : After-head_in-head) → c.head_in-head.result ≡ head_by c.args.sheet.now
+head c = c.head_in-head.ensures ∙ ap (λ (f : Form). head_in f c.args.sheet.now) c.of.ensures
+
+pub returns-then-refusal-ne0 : goal.returns-then-refusal-ne0
+returns-then-refusal-ne0 c = promise_refused (given (goal.at.returns-then-refusal-ne0 c).Start) c.read-refusal.ensures c.if-refusal-ne0.true c.refused.ensures
+
+pub head_in-head-requires : goal.head_in-head-requires
+head_in-head-requires c = holds_head c.read-refusal.ensures c.if-refusal-ne0.false
+
+pub room_right-room-requires : goal.room_right-room-requires
+room_right-room-requires c = holds-bounded c.read-refusal.ensures c.if-refusal-ne0.false (head (goal.at.room_right-room-requires c).After-head_in-head)
+
+pub returns-then-not-room : goal.returns-then-not-room
+returns-then-not-room c = promise_short (given (goal.at.returns-then-not-room c).Start) c.read-refusal.ensures c.if-refusal-ne0.false (head (goal.at.returns-then-not-room c).After-head_in-head) c.room_right-room.ensures (not-true _ c.if-not-room.true) c.refused-then-not-room.ensures
+
+pub hand_over-requires : goal.hand_over-requires
+hand_over-requires c = record { bounded = (holds-bounded c.read-refusal.ensures c.if-refusal-ne0.false (head (goal.at.hand_over-requires c).After-head_in-head), omega (arith, c.read-refusal.auto.1.0)); room = enough_room c.head_in-head.result (length c.args.workloads.now) (length c.args.outside.now) (length c.args.edges.now) (length c.args.counts.now) (length c.args.visits.now) (length c.args.constraints.now) (length c.args.colouring.now) c.room_right-room.ensures (not-false _ c.if-not-room.false) }
+
+pub returns : goal.returns
+returns c = promise_held (given (goal.at.returns c).Start) c.read-refusal.ensures c.if-refusal-ne0.false (head (goal.at.returns c).After-head_in-head) c.room_right-room.ensures (not-false _ c.if-not-room.false) c.hand_over.ensures

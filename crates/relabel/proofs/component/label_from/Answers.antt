@@ -1,0 +1,33 @@
+-- Where the region shows the sector its component is searched and given the smallest of its regions for a label, and otherwise nothing changes.
+use native.Mathlib.Omega.{arith}
+use mathlib.Core.Path.{◌∙◌}
+use lib.ListN.{length-set}
+use Rattle.relabel.specs.Seeding.{seeded_none, seeding_room, seeding_grow, seeding_part, seeding_span, seeded_some}
+use Rattle.relabel.proofs.component.label_from.Goals as goal
+
+pub offset_bounds-queue-end : goal.offset_bounds-queue-end
+offset_bounds-queue-end c = omega (arith, seeding_room c.requires c.if-colouring-z.true)
+
+pub bounds-queue-end : goal.bounds-queue-end
+bounds-queue-end c = seeding_room c.requires c.if-colouring-z.true
+
+pub overflow_add-end : goal.overflow_add-end
+overflow_add-end c = omega (arith, seeding_room c.requires c.if-colouring-z.true)
+
+pub grow-e-requires : goal.grow-e-requires
+grow-e-requires c = seeding_grow c.requires c.if-colouring-z.true
+
+pub smallest-label-requires : goal.smallest-label-requires
+smallest-label-requires c = seeding_part shown.before.before.before.before.before.before.before.before.requires c.slice_known-4-1.true c.grow-arg-then-colouring-z-1.ensures
+
+pub write-n-requires : goal.write-n-requires
+write-n-requires c = seeding_span shown.before.before.before.before.before.before.before.before.requires c.slice_known-3-1.true c.grow-arg-1.ensures
+
+pub shape_of-queue-then-colouring-z : goal.shape_of-queue-then-colouring-z
+shape_of-queue-then-colouring-z c = c.grow-arg-1.ensures.grown.size ∙ simp length-set
+
+pub returns-then-colouring-z : goal.returns-then-colouring-z
+returns-then-colouring-z c = seeded_some shown.before.before.before.before.before.before.before.before.requires c.slice_known-3-1.true c.grow-arg-1.ensures c.slice_known-then-colouring-z-2-1.ensures c.write-n.ensures
+
+pub returns : goal.returns
+returns c = seeded_none c.requires c.if-colouring-z.false

@@ -1,0 +1,11 @@
+-- Each arm of the match is a case of the definition.
+use Rattle.terms.specs.Moves.{recolouring}
+use Rattle.terms.proofs.Move.recolouring.Goals as goal
+
+pub returns-in-Made : goal.returns-in-Made
+unfolding recolouring
+returns-in-Made c = rw c.sector-1.given.1
+
+pub returns-in-Refused : goal.returns-in-Refused
+unfolding recolouring
+returns-in-Refused c = rw c.enum_told-1.given.1

@@ -1,0 +1,15 @@
+-- The section of the visit counts starts at their first block, and there is one for each flight.
+use native.Mathlib.Omega.{arith}
+use Rattle.form.specs.FormLaws.{laid_ones, bounded}
+use Rattle.form.specs.Firsts.{blocks_all}
+use Rattle.writing.specs.Sections.{blocks_asked, blocks_written}
+use Rattle.writing.proofs.sections.write_counts.Goals as goal
+
+pub count_section-requires : goal.count_section-requires
+count_section-requires c = (bounded c.args.form c.requires.has_blocks.limits).flights
+
+pub write_section-requires : goal.write_section-requires
+write_section-requires c = let r = blocks_asked c.slice_known-1.form (laid_ones 7 c.slice_known-1.head.flights) c.write_section-arg-2-1.ensures c.write_section-arg-3-1.ensures c.slice_known-1.1.0 c.slice_known-1.counts.now c.slice_known-1.0 (omega (arith, blocks_all c.slice_known-1.form c.slice_known-1.head)) (omega (arith, c.slice_known-1.1.1)) in record { letters_len = r.0; section_in_bounds = r.1.0; widths_in_bounds = r.1.1 }
+
+pub returns : goal.returns
+returns c = let r = blocks_written c.slice_known-1.form (laid_ones 7 c.slice_known-1.head.flights) c.write_section-arg-2-1.ensures c.write_section-arg-3-1.ensures c.slice_known-1.1.0 c.slice_known-1.counts.now c.slice_known-1.sheet.now TODO_c.write-section.ensures in record { value = r.0; sheet_after = r.1 }
