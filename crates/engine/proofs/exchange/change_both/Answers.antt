@@ -9,10 +9,10 @@ pub change_at-once-requires : goal.change_at-once-requires
 change_at-once-requires c = (c.requires.paid, (c.requires.remembered, (swapping_first c.requires.swapping, TODO_s.1.1.1)))
 
 pub offset_bounds-colouring-z-2 : goal.offset_bounds-colouring-z-2
-offset_bounds-colouring-z-2 c = omega (arith, c.requires.swapping.first, c.requires.swapping.ground.limits.R)
+offset_bounds-colouring-z-2 c = omega (arith, c.requires.swapping.first, c.requires.swapping.basis.limits.R)
 
 pub bounds-colouring-z-2 : goal.bounds-colouring-z-2
-bounds-colouring-z-2 c = omega (arith, c.requires.swapping.first, c.requires.swapping.ground.coloured.size, c.change_at-once.auto.1.1.1.1.1.1.1.1.1.1.1.1.1.1.1.0)
+bounds-colouring-z-2 c = omega (arith, c.requires.swapping.first, c.requires.swapping.basis.coloured.size, c.change_at-once.auto.1.1.1.1.1.1.1.1.1.1.1.1.1.1.1.0)
 
 pub change_anew-twice-requires : goal.change_anew-twice-requires
 change_anew-twice-requires c =
@@ -20,7 +20,7 @@ change_anew-twice-requires c =
     (c.requires.paid.limited, (swapping_second c.requires.swapping mid c.colouring-1.auto.1.1.1.1.1.1.1.1.1.1.1.1.1.1.1.1.1.1.0, (swapping_sides c.requires.swapping mid c.colouring-1.ensures.1.0.changed c.turned_round.ensures, c.requires.flown)))
 
 pub offset_bounds-colouring-z-3 : goal.offset_bounds-colouring-z-3
-offset_bounds-colouring-z-3 c = omega (arith, c.requires.swapping.first, c.requires.swapping.ground.limits.R)
+offset_bounds-colouring-z-3 c = omega (arith, c.requires.swapping.first, c.requires.swapping.basis.limits.R)
 
 pub bounds-colouring-z-3 : goal.bounds-colouring-z-3
 bounds-colouring-z-3 c = omega (arith, c.requires.swapping.first, (swapping_coloured c.requires.swapping (c.change_anew-twice.ensures.colouring_after ∙ swapping_between c.requires.swapping c.change_at-once.ensures.colouring_after)).size)
@@ -31,7 +31,7 @@ in_turn-requires c = swapping_addable c.requires.swapping (swapping_between c.re
 pub shape_of-colouring : goal.shape_of-colouring
 shape_of-colouring c =
     let mid = c.change_anew-twice.ensures.colouring_after ∙ swapping_between c.requires.swapping c.change_at-once.ensures.colouring_after in
-    simp length-set ((swapping_coloured c.requires.swapping mid).size ∙ sym c.requires.swapping.ground.coloured.size)
+    simp length-set ((swapping_coloured c.requires.swapping mid).size ∙ sym c.requires.swapping.basis.coloured.size)
 
 pub shape_of-queue : goal.shape_of-queue
 shape_of-queue c = c.change_anew-twice.auto.1.1.1.1.1.1.1.1.1.1.1.1.1.1.1.1.0 ∙ c.change_at-once.auto.1.1.1.1.1.1.1.1.1.1.1.1.1.1.1.1.1.1.0

@@ -7,7 +7,7 @@ use Rattle.engine.specs.Swapping.{swapping_first, swapping_second, swapping_side
 use Rattle.engine.proofs.exchange.turn_both.Goals as goal
 
 pub copy-requires : goal.copy-requires
-copy-requires c = let s = c.before.before.before.before.before.before.before.before.before.before.before.before.before.before.before.before.before.before.before.before.before.requires.1 in omega (arith, swapping_size s.0 s.1.1.0, s.0.ground.limits.R)
+copy-requires c = let s = c.before.before.before.before.before.before.before.before.before.before.before.before.before.before.before.before.before.before.before.before.before.requires.1 in omega (arith, swapping_size s.0 s.1.1.0, s.0.basis.limits.R)
 
 pub turn-once-requires : goal.turn-once-requires
 turn-once-requires c = (c.requires.limited_value, (swapping_first c.requires.swapping, TODO_s.1.1))
@@ -20,14 +20,14 @@ turn-twice-requires c =
     )
 
 pub slice_bounds-old-end : goal.slice_bounds-old-end
-slice_bounds-old-end c = omega (arith, c.copy.kept.to, c.requires.swapping.ground.limits.R)
+slice_bounds-old-end c = omega (arith, c.copy.kept.to, c.requires.swapping.basis.limits.R)
 
 pub slice_bounds-differing-end : goal.slice_bounds-differing-end
-slice_bounds-differing-end c = sym (length-take-le _ c.copy.new.to (omega (arith, c.copy.kept.to, c.requires.swapping.ground.limits.R)))
+slice_bounds-differing-end c = sym (length-take-le _ c.copy.new.to (omega (arith, c.copy.kept.to, c.requires.swapping.basis.limits.R)))
 
 pub differing-requires : goal.differing-requires
 differing-requires c =
-    length-take-le _ c.copy.new.to (omega (arith, c.copy.kept.to, c.requires.swapping.ground.limits.R))
+    length-take-le _ c.copy.new.to (omega (arith, c.copy.kept.to, c.requires.swapping.basis.limits.R))
     ∙ sym (c.turn-arg-6-1.auto.1.1.1.1.1.1.1.1.1.1.1.1.1.1.1.1.0 ∙ c.turn-once.auto.1.1.1.1.1.1.1.1.1.1.1.1.1.1.1.1.0 ∙ swapping_size c.requires.swapping c.requires.labels_value)
 
 pub together-requires : goal.together-requires

@@ -13,10 +13,10 @@ pub overflow_sub-workload : goal.overflow_sub-workload
 overflow_sub-workload c = omega (arith, c.requires.turning.region)
 
 pub offset_bounds-workloads-v : goal.offset_bounds-workloads-v
-offset_bounds-workloads-v c = omega (arith, c.requires.turning.region, c.requires.turning.ground.limits.R)
+offset_bounds-workloads-v c = omega (arith, c.requires.turning.region, c.requires.turning.basis.limits.R)
 
 pub bounds-workloads-v : goal.bounds-workloads-v
-bounds-workloads-v c = omega (arith, c.requires.turning.region, c.requires.turning.ground.limits.workloads)
+bounds-workloads-v c = omega (arith, c.requires.turning.region, c.requires.turning.basis.limits.workloads)
 
 pub slice_bounds-look_at-end : goal.slice_bounds-look_at-end
 slice_bounds-look_at-end c = sym (length-take-le _ c.args.work.now (omega (arith, c.requires.kept.room)))
