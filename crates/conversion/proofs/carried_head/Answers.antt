@@ -2,4 +2,4 @@
 use Rattle.conversion.proofs.carried_head.Goals as goal
 
 pub returns-in-First : goal.returns-in-First
-returns-in-First c = rw c.enum_told-1.given.1
+returns-in-First c = rw c.in-First.is

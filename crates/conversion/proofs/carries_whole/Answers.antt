@@ -3,8 +3,8 @@ use Rattle.conversion.specs.Promise.{carries}
 use Rattle.conversion.proofs.carries_whole.Goals as goal
 
 pub returns-in-First : goal.returns-in-First
-returns-in-First c = rw c.enum_told-1.given.1 c.first_carries.ensures
+returns-in-First c = rw c.in-First.is c.first_carries.ensures
 
 pub returns-in-Second : goal.returns-in-Second
 unfolding carries
-returns-in-Second c = rw c.enum_told-in-Second-1.given.1
+returns-in-Second c = rw c.in-Second.is

@@ -1,6 +1,5 @@
 -- The sheet is refused, or what is lent is too short, or the new form doesn't carry the contents, or what is held is put down as a sheet of the new form: a law says of each way that it is the outcome.
 use native.Mathlib.Omega.{arith}
-use borrow.Author.Tests.{not-true, not-false}
 use Rattle.form.specs.FormLaws.{few_either}
 use Rattle.holding.specs.HeldLaws.{holds_head, holds-bounded, holds-taken}
 use Rattle.conversion.specs.ConvertLaws.{Measured, carried-limits, measured, promise_refused, promise_short, promise_uncarried, sheet_room, promise_converted}
@@ -30,10 +29,10 @@ pub carries_whole-requires : goal.carries_whole-requires
 carries_whole-requires c = record { bounded = (holds-bounded c.hold-refusal.ensures c.if-refusal-ne0.false c.head_in-head.ensures, omega (arith, c.hold-refusal.auto.1.1.0)); held_value = holds-taken c.hold-refusal.ensures c.if-refusal-ne0.false c.head_in-head.ensures }
 
 pub returns-then-not-carries_whole : goal.returns-then-not-carries_whole
-returns-then-not-carries_whole c = promise_uncarried (held (goal.at.returns-then-not-carries_whole c).After-all_blocks-bytes) c.args.converted.now c.if-converted-bytes.false c.carries_whole.ensures (not-true _ c.if-not-carries_whole.true) c.refused-then-not-carries_whole.ensures
+returns-then-not-carries_whole c = promise_uncarried (held (goal.at.returns-then-not-carries_whole c).After-all_blocks-bytes) c.args.converted.now c.if-converted-bytes.false c.carries_whole.ensures c.if-not-carries_whole.true c.refused-then-not-carries_whole.ensures
 
 pub write_held-requires : goal.write_held-requires
-write_held-requires c = (sheet_room (held (goal.at.write_held-requires c).After-all_blocks-bytes) c.args.converted.now c.if-converted-bytes.false c.carries_whole.ensures (not-false _ c.if-not-carries_whole.false), omega (arith, c.hold-refusal.auto.1.1.0))
+write_held-requires c = (sheet_room (held (goal.at.write_held-requires c).After-all_blocks-bytes) c.args.converted.now c.if-converted-bytes.false c.carries_whole.ensures c.if-not-carries_whole.false, omega (arith, c.hold-refusal.auto.1.1.0))
 
 pub returns : goal.returns
-returns c = promise_converted (held (goal.at.returns c).After-all_blocks-bytes) c.args.converted.now c.if-converted-bytes.false c.carries_whole.ensures (not-false _ c.if-not-carries_whole.false) c.write_held.ensures
+returns c = promise_converted (held (goal.at.returns c).After-all_blocks-bytes) c.args.converted.now c.if-converted-bytes.false c.carries_whole.ensures c.if-not-carries_whole.false c.write_held.ensures

@@ -19,12 +19,12 @@ abbrev bytes : (c : After-by) → List ℕ
 bytes c = take c.read_full-counted.result c.read_full-counted.new.buf
 
 abbrev blocks : (c : In-Blocks) → ℕ
-blocks c = c.blocks-1.given.0.0
+blocks c = c.in-Blocks.blocks
 
 -- the count is right
 counted : (c : In-Blocks) → Counted (bytes c) (blocks c)
 counted c = let few : length (bytes c) ≤ count_length = omega (arith, length-take-le c.read_full-counted.result c.read_full-counted.new.buf c.read_full-counted.ensures.0, c.read_full-counted.kept.buf) in
-    blocks_counted (bytes c) (blocks c) few (sym c.by.ensures ∙ c.blocks-1.given.1)
+    blocks_counted (bytes c) (blocks c) few (sym c.by.ensures ∙ c.in-Blocks.is)
 
 -- the buffer keeps its length
 kept : (c : Else-read-size) → length (c.read_full-read.new.1.0 ++ drop (block_length * blocks c) c.loop-place.sheet) ≡ most_blocks Second * block_length
@@ -34,10 +34,10 @@ pub loop-place-init : goal.loop-place-init
 loop-place-init c = rw c.none-review.ensures (so_far_none, (omega arith, length-replicate {A = ℕ} (most_blocks Second * block_length) 0))
 
 pub returns-in-Nothing : goal.returns-in-Nothing
-returns-in-Nothing c = ends_well c.loop-place.invariant.0 (bytes (goal.at.returns-in-Nothing c).After-by) (sym c.by.ensures ∙ c.enum_told-1.given.1)
+returns-in-Nothing c = ends_well c.loop-place.invariant.0 (bytes (goal.at.returns-in-Nothing c).After-by) (sym c.by.ensures ∙ c.in-Nothing.is)
 
 pub returns-in-Wrong : goal.returns-in-Wrong
-returns-in-Wrong c = ends_count c.loop-place.invariant.0 c.loop-place-test.true (bytes (goal.at.returns-in-Wrong c).After-by) (sym c.by.ensures ∙ c.enum_told-in-Wrong-1.given.1)
+returns-in-Wrong c = ends_count c.loop-place.invariant.0 c.loop-place-test.true (bytes (goal.at.returns-in-Wrong c).After-by) (sym c.by.ensures ∙ c.in-Wrong.is)
 
 pub overflow_mul-size : goal.overflow_mul-size
 overflow_mul-size c = omega (arith, (counted (goal.at.overflow_mul-size c).In-Blocks).few)

@@ -1,7 +1,6 @@
 -- Each way out is the refusal that its step gives, or none is and what is held is handed over.
 use native.Mathlib.Omega.{arith}
 use mathlib.Core.Path.{◌≡◌, ap, ◌∙◌}
-use borrow.Author.Tests.{not-true, not-false}
 use lib.ListN.{length}
 use Rattle.form.specs.declared.Form.{Form}
 use Rattle.form.specs.Form.{head_in, head_by}
@@ -29,10 +28,10 @@ pub room_right-room-requires : goal.room_right-room-requires
 room_right-room-requires c = holds-bounded c.read-refusal.ensures c.if-refusal-ne0.false (head (goal.at.room_right-room-requires c).After-head_in-head)
 
 pub returns-then-not-room : goal.returns-then-not-room
-returns-then-not-room c = promise_short (given (goal.at.returns-then-not-room c).Start) c.read-refusal.ensures c.if-refusal-ne0.false (head (goal.at.returns-then-not-room c).After-head_in-head) c.room_right-room.ensures (not-true _ c.if-not-room.true) c.refused-then-not-room.ensures
+returns-then-not-room c = promise_short (given (goal.at.returns-then-not-room c).Start) c.read-refusal.ensures c.if-refusal-ne0.false (head (goal.at.returns-then-not-room c).After-head_in-head) c.room_right-room.ensures c.if-not-room.true c.refused-then-not-room.ensures
 
 pub hand_over-requires : goal.hand_over-requires
-hand_over-requires c = record { bounded = (holds-bounded c.read-refusal.ensures c.if-refusal-ne0.false (head (goal.at.hand_over-requires c).After-head_in-head), omega (arith, c.read-refusal.auto.1.0)); room = enough_room c.head_in-head.result (length c.args.workloads.now) (length c.args.outside.now) (length c.args.edges.now) (length c.args.counts.now) (length c.args.visits.now) (length c.args.constraints.now) (length c.args.colouring.now) c.room_right-room.ensures (not-false _ c.if-not-room.false) }
+hand_over-requires c = record { bounded = (holds-bounded c.read-refusal.ensures c.if-refusal-ne0.false (head (goal.at.hand_over-requires c).After-head_in-head), omega (arith, c.read-refusal.auto.1.0)); room = enough_room c.head_in-head.result (length c.args.workloads.now) (length c.args.outside.now) (length c.args.edges.now) (length c.args.counts.now) (length c.args.visits.now) (length c.args.constraints.now) (length c.args.colouring.now) c.room_right-room.ensures c.if-not-room.false }
 
 pub returns : goal.returns
-returns c = promise_held (given (goal.at.returns c).Start) c.read-refusal.ensures c.if-refusal-ne0.false (head (goal.at.returns c).After-head_in-head) c.room_right-room.ensures (not-false _ c.if-not-room.false) c.hand_over.ensures
+returns c = promise_held (given (goal.at.returns c).Start) c.read-refusal.ensures c.if-refusal-ne0.false (head (goal.at.returns c).After-head_in-head) c.room_right-room.ensures c.if-not-room.false c.hand_over.ensures

@@ -2,7 +2,7 @@
 use native.Mathlib.Omega.{arith}
 use mathlib.Core.Path.{◌≡◌, sym}
 use mathlib.Core.Bool.{cond}
-use borrow.Author.Tests.{not-true, not-false, le-leb, lt-leb}
+use borrow.Author.Tests.{le-leb, lt-leb}
 use Rattle.packing.specs.Numbers.{two}
 use Rattle.review.specs.declared.Announced.TheVariants.{Wrong, Blocks}
 use Rattle.review.specs.Stream.{count_right, announced_by}
@@ -26,7 +26,7 @@ unfolding count_right
 both c = rw (announced_some c.args.count.now (omega (arith, c.if-count-lt-COUNT_LENGTH.false)), le-leb _ _ c.if-count-lt-COUNT_LENGTH.false, ← c.read_number-blocks.ensures, ← c.most_blocks.ensures, ← c.in_limits.ensures)
 
 pub returns-then-not-in_limits : goal.returns-then-not-in_limits
-returns-then-not-in_limits c = rw (both (goal.at.returns-then-not-in_limits c).After-in_limits, not-true c.in_limits.result c.if-not-in_limits.true)
+returns-then-not-in_limits c = rw (both (goal.at.returns-then-not-in_limits c).After-in_limits, c.if-not-in_limits.true)
 
 pub returns : goal.returns
-returns c = rw (both (goal.at.returns c).After-in_limits, not-false c.in_limits.result c.if-not-in_limits.false)
+returns c = rw (both (goal.at.returns c).After-in_limits, c.if-not-in_limits.false)

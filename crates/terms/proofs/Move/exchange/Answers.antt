@@ -4,8 +4,8 @@ use Rattle.terms.proofs.Move.exchange.Goals as goal
 
 pub returns-in-Made : goal.returns-in-Made
 unfolding exchange
-returns-in-Made c = rw c.second-1.given.1
+returns-in-Made c = rw c.in-Made.is
 
 pub returns-in-Refused : goal.returns-in-Refused
 unfolding exchange
-returns-in-Refused c = rw c.enum_told-1.given.1
+returns-in-Refused c = rw c.in-Refused.is
