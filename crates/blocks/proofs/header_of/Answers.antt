@@ -16,7 +16,7 @@ pub copy_to-requires : goal.copy_to-requires
 copy_to-requires c = let s = c.before.before.before in omega (arith, s.requires, length-take-le letters_length s.args.letters.now (omega (arith, s.requires)))
 
 pub write_number-requires : goal.write_number-requires
-write_number-requires c = (two, omega (arith, c.copy_to.auto.0, length-set c.copy_to.new.0 kind_at c.before.before.before.before.before.before.args.kind))
+write_number-requires c = (two, omega (arith, c.copy_to.auto.bytes, length-set c.copy_to.new.0 kind_at c.before.before.before.before.before.before.args.kind))
 
 pub write_number-requires-2 : goal.write_number-requires-2
 write_number-requires-2 c = (two, search rules)

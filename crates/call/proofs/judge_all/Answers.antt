@@ -14,7 +14,7 @@ begin-first-requires c = (c.requires.sorted, (c.requires.setting, (c.requires.op
 pub all_moves-last-requires : goal.all_moves-last-requires
 all_moves-last-requires c =
     let ready = opened_ready c.requires.valid.plan.limits c.requires.valid.plan.coloured c.begin-first.ensures c.requires.opening.room in
-    (c.requires.sorted, (c.requires.valid.moves_few, (setting_queue c.requires.setting c.begin-first.auto.1.1.1.1.1.1.1.1.1.1.1.1.1.1.1.1.1.0, (ready, (c.requires.valid.rows_room, c.requires.flown)))))
+    (c.requires.sorted, (c.requires.valid.moves_few, (setting_queue c.requires.setting c.begin-first.auto.queue, (ready, (c.requires.valid.rows_room, c.requires.flown)))))
 
 pub overflow_add-counts_end : goal.overflow_add-counts_end
 overflow_add-counts_end c = omega (arith, c.requires.valid.plan.limits.S, c.requires.valid.plan.limits.R)
@@ -26,7 +26,7 @@ pub offset_bounds-work-counts_end : goal.offset_bounds-work-counts_end
 offset_bounds-work-counts_end c = omega (arith, c.requires.valid.plan.limits.S, c.requires.valid.plan.limits.R)
 
 pub slice_bounds-conclude-end : goal.slice_bounds-conclude-end
-slice_bounds-conclude-end c = omega (arith, c.all_moves-last.kept.work, c.begin-first.kept.work, c.requires.valid.work_room)
+slice_bounds-conclude-end c = omega (arith, c.all_moves-last.auto.work, c.begin-first.auto.work, c.requires.valid.work_room)
 
 pub conclude-requires : goal.conclude-requires
 conclude-requires c =
@@ -37,13 +37,13 @@ pub offset_bounds-work-at : goal.offset_bounds-work-at
 offset_bounds-work-at c = omega (arith, c.requires.valid.plan.limits.S, c.requires.valid.plan.limits.R)
 
 pub bounds-work-at : goal.bounds-work-at
-bounds-work-at c = omega (arith, c.all_moves-last.kept.work, c.begin-first.kept.work, c.requires.valid.work_room)
+bounds-work-at c = omega (arith, c.all_moves-last.auto.work, c.begin-first.auto.work, c.requires.valid.work_room)
 
 pub shape_of-colouring : goal.shape_of-colouring
-shape_of-colouring c = c.all_moves-last.kept.colouring ∙ c.begin-first.kept.colouring
+shape_of-colouring c = c.all_moves-last.auto.colouring ∙ c.begin-first.auto.colouring
 
 pub shape_of-work : goal.shape_of-work
-shape_of-work c = simp length-set (c.all_moves-last.kept.work ∙ c.begin-first.kept.work)
+shape_of-work c = simp length-set (c.all_moves-last.auto.work ∙ c.begin-first.auto.work)
 
 pub returns : goal.returns
 returns c = ran_by _ c.requires.valid c.begin-first.ensures c.all_moves-last.ensures.opened c.all_moves-last.ensures.rows_after c.conclude.ensures

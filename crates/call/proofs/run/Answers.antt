@@ -31,10 +31,10 @@ pub slice_bounds-judge_all-end-then-timed_end-eq0 : goal.slice_bounds-judge_all-
 slice_bounds-judge_all-end-then-timed_end-eq0 c = sym (length-take-le _ c.pick-limited_end.new.picked c.pick-limited_end.ensures.result_in_bounds)
 
 pub slice_bounds-start-end-then-timed_end-eq0 : goal.slice_bounds-start-end-then-timed_end-eq0
-slice_bounds-start-end-then-timed_end-eq0 c = starts_room c.requires c.gather.new.start c.gather.kept.start
+slice_bounds-start-end-then-timed_end-eq0 c = starts_room c.requires c.gather.new.start c.gather.auto.start
 
 pub slice_bounds-judge_all-end-then-timed_end-eq0-2 : goal.slice_bounds-judge_all-end-then-timed_end-eq0-2
-slice_bounds-judge_all-end-then-timed_end-eq0-2 c = sym (starts_length c.requires c.gather.new.start c.gather.kept.start)
+slice_bounds-judge_all-end-then-timed_end-eq0-2 c = sym (starts_length c.requires c.gather.new.start c.gather.auto.start)
 
 pub slice_bounds-judge_all-end-then-timed_end-eq0-5 : goal.slice_bounds-judge_all-end-then-timed_end-eq0-5
 slice_bounds-judge_all-end-then-timed_end-eq0-5 c = sym (length-take-le _ c.pick-timed_end.new.1.1.1.0 c.pick-timed_end.ensures.result_in_bounds)
@@ -45,7 +45,7 @@ slice_bounds-prices-end c = prices_room c.requires
 pub judge_all-requires : goal.judge_all-requires
 judge_all-requires c =
     let none = length-take-le _ c.shared-then-timed_end-eq0-1.new.1.1.1.0 c.shared-then-timed_end-eq0-1.ensures.0 ∙ c.start-then-timed_end-eq0-1.true in
-    let setting = gathered_setting c.requires c.gather.new.start c.gather.kept.start c.sum_of-whole.ensures c.gather.ensures in
+    let setting = gathered_setting c.requires c.gather.new.start c.gather.auto.start c.sum_of-whole.ensures c.gather.ensures in
     rw c.requires.plan.limits.workloads
     (c.requires, (picked_sorted c.requires c.pick-shared_end.ensures.picked_after c.pick-limited_end.ensures.picked_after, (setting, (lent_opening c.requires c.args.work.now refl, empty_flown c.requires none (picked_priced c.requires c.shared-then-timed_end-eq0-1.ensures.1)))))
 
@@ -59,10 +59,10 @@ pub slice_bounds-run_timed-end-2 : goal.slice_bounds-run_timed-end-2
 slice_bounds-run_timed-end-2 c = sym (length-take-le _ c.pick-limited_end.new.picked c.pick-limited_end.ensures.result_in_bounds)
 
 pub slice_bounds-start-end-2 : goal.slice_bounds-start-end-2
-slice_bounds-start-end-2 c = starts_room c.requires c.gather.new.start c.gather.kept.start
+slice_bounds-start-end-2 c = starts_room c.requires c.gather.new.start c.gather.auto.start
 
 pub slice_bounds-run_timed-end-3 : goal.slice_bounds-run_timed-end-3
-slice_bounds-run_timed-end-3 c = sym (starts_length c.requires c.gather.new.start c.gather.kept.start)
+slice_bounds-run_timed-end-3 c = sym (starts_length c.requires c.gather.new.start c.gather.auto.start)
 
 pub slice_bounds-run_timed-end-6 : goal.slice_bounds-run_timed-end-6
 slice_bounds-run_timed-end-6 c = sym (length-take-le _ c.pick-timed_end.new.1.1.1.0 c.pick-timed_end.ensures.result_in_bounds)
@@ -75,7 +75,7 @@ slice_bounds-run_timed-end-7 c = sym (prices_lent c.requires)
 
 pub run_timed-requires : goal.run_timed-requires
 run_timed-requires c =
-    let setting = gathered_setting c.requires c.gather.new.start c.gather.kept.start c.sum_of-whole.ensures c.gather.ensures in
+    let setting = gathered_setting c.requires c.gather.new.start c.gather.auto.start c.sum_of-whole.ensures c.gather.ensures in
     rw c.requires.plan.limits.workloads
     (c.requires, (picked_sorted c.requires c.pick-shared_end.ensures.picked_after c.pick-limited_end.ensures.picked_after, (setting, (lent_opening c.requires c.args.work.now refl, picked_priced c.requires c.pick-timed_end.ensures.picked_after))))
 

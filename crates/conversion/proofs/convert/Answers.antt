@@ -26,13 +26,13 @@ pub returns-then-converted-bytes : goal.returns-then-converted-bytes
 returns-then-converted-bytes c = promise_short (held (goal.at.returns-then-converted-bytes c).After-all_blocks-bytes) c.args.converted.now c.if-converted-bytes.true c.refused-then-converted-bytes.ensures
 
 pub carries_whole-requires : goal.carries_whole-requires
-carries_whole-requires c = record { bounded = (holds-bounded c.hold-refusal.ensures c.if-refusal-ne0.false c.head_in-head.ensures, omega (arith, c.hold-refusal.auto.1.1.0)); held_value = holds-taken c.hold-refusal.ensures c.if-refusal-ne0.false c.head_in-head.ensures }
+carries_whole-requires c = record { bounded = (holds-bounded c.hold-refusal.ensures c.if-refusal-ne0.false c.head_in-head.ensures, omega (arith, c.hold-refusal.auto.held)); held_value = holds-taken c.hold-refusal.ensures c.if-refusal-ne0.false c.head_in-head.ensures }
 
 pub returns-then-not-carries_whole : goal.returns-then-not-carries_whole
 returns-then-not-carries_whole c = promise_uncarried (held (goal.at.returns-then-not-carries_whole c).After-all_blocks-bytes) c.args.converted.now c.if-converted-bytes.false c.carries_whole.ensures c.if-not-carries_whole.true c.refused-then-not-carries_whole.ensures
 
 pub write_held-requires : goal.write_held-requires
-write_held-requires c = (sheet_room (held (goal.at.write_held-requires c).After-all_blocks-bytes) c.args.converted.now c.if-converted-bytes.false c.carries_whole.ensures c.if-not-carries_whole.false, omega (arith, c.hold-refusal.auto.1.1.0))
+write_held-requires c = (sheet_room (held (goal.at.write_held-requires c).After-all_blocks-bytes) c.args.converted.now c.if-converted-bytes.false c.carries_whole.ensures c.if-not-carries_whole.false, omega (arith, c.hold-refusal.auto.held))
 
 pub returns : goal.returns
 returns c = promise_converted (held (goal.at.returns c).After-all_blocks-bytes) c.args.converted.now c.if-converted-bytes.false c.carries_whole.ensures c.if-not-carries_whole.false c.write_held.ensures

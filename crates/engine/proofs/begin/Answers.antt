@@ -23,7 +23,7 @@ pub offset_bounds-work-counts_end : goal.offset_bounds-work-counts_end
 offset_bounds-work-counts_end c = omega (arith, c.requires.setting.limits)
 
 pub slice_bounds-price_all-end : goal.slice_bounds-price_all-end
-slice_bounds-price_all-end c = omega (arith, c.requires.opening.room, c.lay_out.kept.work)
+slice_bounds-price_all-end c = omega (arith, c.requires.opening.room, c.lay_out.auto.work)
 
 pub price_all-requires : goal.price_all-requires
 price_all-requires c = let r = opening_paying c.requires.setting c.requires.opening c.lay_out.ensures.work_after c.requires.sorted in record { paying = r.0; few = r.1.0; prices_len = r.1.1 }
@@ -35,13 +35,13 @@ pub offset_bounds-work-regions : goal.offset_bounds-work-regions
 offset_bounds-work-regions c = omega (arith, c.requires.setting.limits)
 
 pub slice_bounds-figures_of-end : goal.slice_bounds-figures_of-end
-slice_bounds-figures_of-end c = omega (arith, c.requires.opening.room, c.lay_out.kept.work)
+slice_bounds-figures_of-end c = omega (arith, c.requires.opening.room, c.lay_out.auto.work)
 
 pub offset_bounds-work-counts_end-2 : goal.offset_bounds-work-counts_end-2
 offset_bounds-work-counts_end-2 c = omega (arith, c.requires.setting.limits)
 
 pub slice_bounds-figures_of-end-2 : goal.slice_bounds-figures_of-end-2
-slice_bounds-figures_of-end-2 c = omega (arith, c.requires.opening.room, c.lay_out.kept.work)
+slice_bounds-figures_of-end-2 c = omega (arith, c.requires.opening.room, c.lay_out.auto.work)
 
 pub figures_of-figures-requires : goal.figures_of-figures-requires
 figures_of-figures-requires c = opening_tallies c.requires.setting c.requires.opening c.lay_out.ensures.work_after

@@ -23,12 +23,12 @@ blocks c = c.in-Blocks.blocks
 
 -- the count is right
 counted : (c : In-Blocks) → Counted (bytes c) (blocks c)
-counted c = let few : length (bytes c) ≤ count_length = omega (arith, length-take-le c.read_full-counted.result c.read_full-counted.new.buf c.read_full-counted.ensures.0, c.read_full-counted.kept.buf) in
+counted c = let few : length (bytes c) ≤ count_length = omega (arith, length-take-le c.read_full-counted.result c.read_full-counted.new.buf c.read_full-counted.ensures.0, c.read_full-counted.auto.buf) in
     blocks_counted (bytes c) (blocks c) few (sym c.by.ensures ∙ c.in-Blocks.is)
 
 -- the buffer keeps its length
 kept : (c : Else-read-size) → length (c.read_full-read.new.1.0 ++ drop (block_length * blocks c) c.loop-place.sheet) ≡ most_blocks Second * block_length
-kept c = length_front c.loop-place.sheet c.read_full-read.new.1.0 (block_length * blocks c) c.read_full-read.auto.1.0 ∙ c.loop-place.invariant.1.1
+kept c = length_front c.loop-place.sheet c.read_full-read.new.1.0 (block_length * blocks c) c.read_full-read.auto.buf ∙ c.loop-place.invariant.1.1
 
 pub loop-place-init : goal.loop-place-init
 loop-place-init c = rw c.none-review.ensures (so_far_none, (omega arith, length-replicate {A = ℕ} (most_blocks Second * block_length) 0))
@@ -65,7 +65,7 @@ with_sheet-review-requires c = (so_far_taken c.loop-place.invariant.0, c.loop-pl
 pub loop-place-preserved : goal.loop-place-preserved
 loop-place-preserved c =
     let size = block_length * blocks (goal.at.loop-place-preserved c).In-Blocks in
-    let all : length c.read_full-read.new.1.0 ≡ size = c.read_full-read.auto.1.0 ∙ length-take-le size c.loop-place.sheet (array-borrow-prefix-sheet (goal.at.loop-place-preserved c).In-Blocks) in
+    let all : length c.read_full-read.new.1.0 ≡ size = c.read_full-read.auto.buf ∙ length-take-le size c.loop-place.sheet (array-borrow-prefix-sheet (goal.at.loop-place-preserved c).In-Blocks) in
     let read : length (take c.read_full-read.result c.read_full-read.new.1.0) ≡ size = omega (arith, length-take-le c.read_full-read.result c.read_full-read.new.1.0 c.read_full-read.ensures.0, c.if-read-size.false) in
     let same = take_at c.read_full-read.new.1.0 (drop size c.loop-place.sheet) size all ∙ sym (take_all c.read_full-read.result c.read_full-read.new.1.0 (omega (arith, c.if-read-size.false))) in
     let more = so_far_next c.loop-place.invariant.0 c.loop-place-test.true (counted (goal.at.loop-place-preserved c).In-Blocks) (take c.read_full-read.result c.read_full-read.new.1.0) read in

@@ -16,11 +16,11 @@ few c = few_left c.judge_sheet-judged.ensures
 
 -- their numbers are within the list
 constraints-room : (c : After-judge_sheet-judged) → constraint_length * c.judge_sheet-judged.result.constraints ≤ length c.judge_sheet-judged.new.1.0
-constraints-room c = omega (arith, few c, c.judge_sheet-judged.auto.1.0)
+constraints-room c = omega (arith, few c, c.judge_sheet-judged.auto.constraints)
 
 -- and so are the verdicts on them
 verdicts_room : (c : After-judge_sheet-judged) → verdict_length * c.judge_sheet-judged.result.constraints ≤ length c.judge_sheet-judged.new.1.1.0
-verdicts_room c = omega (arith, few c, c.judge_sheet-judged.auto.1.1.0)
+verdicts_room c = omega (arith, few c, c.judge_sheet-judged.auto.verdicts)
 
 pub returns-then-judged-ne0 : goal.returns-then-judged-ne0
 returns-then-judged-ne0 c = record { prefix_len = c.put_refusal.ensures.prefix_len; text_promise = promise_shown _ _ c.requires (text_refused c.judge_sheet-judged.ensures c.if-judged-ne0.true) c.put_refusal.ensures.text_after }

@@ -18,7 +18,7 @@ pub copy-requires : goal.copy-requires
 copy-requires c = omega (arith, ap length c.colouring_in.ensures, (counted (goal.at.copy-requires c).Start).colouring, c.requires.bounded.0.regions)
 
 pub slice_bounds-judge-end : goal.slice_bounds-judge-end
-slice_bounds-judge-end c = sym (length-take-le c.args.head.regions c.copy.new.1.0 (omega (arith, c.copy.auto.1.0, c.requires.bounded.0.regions)))
+slice_bounds-judge-end c = sym (length-take-le c.args.head.regions c.copy.new.1.0 (omega (arith, c.copy.auto.to, c.requires.bounded.0.regions)))
 
 pub returns : goal.returns
 returns c =

@@ -28,15 +28,15 @@ pub head_in-head-requires : goal.head_in-head-requires
 head_in-head-requires c = holds_head c.read-refusal.ensures c.if-refusal-ne0.false
 
 pub constraints_in-requires : goal.constraints_in-requires
-constraints_in-requires c = (few (goal.at.constraints_in-requires c).After-head_in-head, omega (arith, c.read-refusal.auto.1.0))
+constraints_in-requires c = (few (goal.at.constraints_in-requires c).After-head_in-head, omega (arith, c.read-refusal.auto.held))
 
 pub copy-requires : goal.copy-requires
 copy-requires c =
-    let n = counted_held c.head_in-head.result c.read-refusal.new.1.0 (few (goal.at.copy-requires c).After-head_in-head) (omega (arith, c.read-refusal.auto.1.0)) in
+    let n = counted_held c.head_in-head.result c.read-refusal.new.1.0 (few (goal.at.copy-requires c).After-head_in-head) (omega (arith, c.read-refusal.auto.held)) in
     omega (arith, ap length c.constraints_in.ensures, n.constraints, (few (goal.at.copy-requires c).After-head_in-head).constraints, c.requires.most_constraints_in_bounds)
 
 pub judge_held-total-requires : goal.judge_held-total-requires
-judge_held-total-requires c = record { bounded = (few (goal.at.judge_held-total-requires c).After-head_in-head, omega (arith, c.read-refusal.auto.1.0)); held_value = holds-taken c.read-refusal.ensures c.if-refusal-ne0.false (head (goal.at.judge_held-total-requires c).After-head_in-head); most_constraints_in_bounds = c.requires.most_constraints_in_bounds_2 }
+judge_held-total-requires c = record { bounded = (few (goal.at.judge_held-total-requires c).After-head_in-head, omega (arith, c.read-refusal.auto.held)); held_value = holds-taken c.read-refusal.ensures c.if-refusal-ne0.false (head (goal.at.judge_held-total-requires c).After-head_in-head); most_constraints_in_bounds = c.requires.most_constraints_in_bounds_2 }
 
 pub returns : goal.returns
 returns c = leaves_judged c.args.sheet.now c.read-refusal.ensures c.if-refusal-ne0.false (head (goal.at.returns c).After-head_in-head) (c.copy.ensures ∙ ap (λ (l : List ℕ). over l c.args.constraints.now) c.constraints_in.ensures) c.judge_held-total.ensures.0 c.judge_held-total.ensures.1

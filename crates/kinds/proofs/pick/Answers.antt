@@ -10,7 +10,7 @@ pub pick_at-n-requires : goal.pick_at-n-requires
 pick_at-n-requires c = picked_place c.loop-k.invariant c.loop-k-test.true
 
 pub loop-k-preserved : goal.loop-k-preserved
-loop-k-preserved c = picked_turn c.loop-k.invariant c.loop-k-test.true c.pick_at-n.auto.1.1.1.0 c.pick_at-n.ensures
+loop-k-preserved c = picked_turn c.loop-k.invariant c.loop-k-test.true c.pick_at-n.auto.picked c.pick_at-n.ensures
 
 pub shape_of-picked : goal.shape_of-picked
 shape_of-picked c = c.loop-k.invariant.size

@@ -15,7 +15,7 @@ pub add_up-requires : goal.add_up-requires
 add_up-requires c = omega (arith, counted_sum c.count_edges.ensures)
 
 pub fill-requires : goal.fill-requires
-fill-requires c = filled_none c.count_edges.ensures c.add_up.auto.0 c.add_up.ensures c.requires.edge_length_in_bounds c.requires.areas_len
+fill-requires c = filled_none c.count_edges.ensures c.add_up.auto.counts c.add_up.ensures c.requires.edge_length_in_bounds c.requires.areas_len
 
 pub returns : goal.returns
-returns c = filled_table (rw (c.add_up.auto.0 ∙ c.count_edges.auto.1.0) at c.fill.ensures) c.requires.in_bounds c.requires.ends
+returns c = filled_table (rw (c.add_up.auto.counts ∙ c.count_edges.auto.counts) at c.fill.ensures) c.requires.in_bounds c.requires.ends

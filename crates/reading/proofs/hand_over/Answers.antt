@@ -42,25 +42,25 @@ pub copy-requires-7 : goal.copy-requires-7
 copy-requires-7 c = fits c.colouring_in.ensures (counted (goal.at.copy-requires-7 c).Start).colouring c.requires.room.for_colouring
 
 pub shape_of-workloads : goal.shape_of-workloads
-shape_of-workloads c = c.copy.auto.1.0
+shape_of-workloads c = c.copy.auto.to
 
 pub shape_of-outside : goal.shape_of-outside
-shape_of-outside c = c.copy-2.auto.1.0
+shape_of-outside c = c.copy-2.auto.to
 
 pub shape_of-edges : goal.shape_of-edges
-shape_of-edges c = c.copy-3.auto.1.0
+shape_of-edges c = c.copy-3.auto.to
 
 pub shape_of-counts : goal.shape_of-counts
-shape_of-counts c = c.copy-4.auto.1.0
+shape_of-counts c = c.copy-4.auto.to
 
 pub shape_of-visits : goal.shape_of-visits
-shape_of-visits c = c.copy-5.auto.1.0
+shape_of-visits c = c.copy-5.auto.to
 
 pub shape_of-constraints : goal.shape_of-constraints
-shape_of-constraints c = c.copy-6.auto.1.0
+shape_of-constraints c = c.copy-6.auto.to
 
 pub shape_of-colouring : goal.shape_of-colouring
-shape_of-colouring c = c.copy-7.auto.1.0
+shape_of-colouring c = c.copy-7.auto.to
 
 pub returns : goal.returns
 returns c =

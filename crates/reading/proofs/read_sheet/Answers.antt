@@ -31,7 +31,7 @@ pub returns-then-not-room : goal.returns-then-not-room
 returns-then-not-room c = promise_short (given (goal.at.returns-then-not-room c).Start) c.read-refusal.ensures c.if-refusal-ne0.false (head (goal.at.returns-then-not-room c).After-head_in-head) c.room_right-room.ensures c.if-not-room.true c.refused-then-not-room.ensures
 
 pub hand_over-requires : goal.hand_over-requires
-hand_over-requires c = record { bounded = (holds-bounded c.read-refusal.ensures c.if-refusal-ne0.false (head (goal.at.hand_over-requires c).After-head_in-head), omega (arith, c.read-refusal.auto.1.0)); room = enough_room c.head_in-head.result (length c.args.workloads.now) (length c.args.outside.now) (length c.args.edges.now) (length c.args.counts.now) (length c.args.visits.now) (length c.args.constraints.now) (length c.args.colouring.now) c.room_right-room.ensures c.if-not-room.false }
+hand_over-requires c = record { bounded = (holds-bounded c.read-refusal.ensures c.if-refusal-ne0.false (head (goal.at.hand_over-requires c).After-head_in-head), omega (arith, c.read-refusal.auto.held)); room = enough_room c.head_in-head.result (length c.args.workloads.now) (length c.args.outside.now) (length c.args.edges.now) (length c.args.counts.now) (length c.args.visits.now) (length c.args.constraints.now) (length c.args.colouring.now) c.room_right-room.ensures c.if-not-room.false }
 
 pub returns : goal.returns
 returns c = promise_held (given (goal.at.returns c).Start) c.read-refusal.ensures c.if-refusal-ne0.false (head (goal.at.returns c).After-head_in-head) c.room_right-room.ensures c.if-not-room.false c.hand_over.ensures

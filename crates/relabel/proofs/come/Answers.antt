@@ -28,7 +28,7 @@ relabel_own-requires c =
 record { counting = coming_next pre; labels_len = coming_size pre }
 
 pub shape_of-colouring : goal.shape_of-colouring
-shape_of-colouring c = c.relabel_own.auto.1.1.1.0 ∙ simp length-set
+shape_of-colouring c = c.relabel_own.auto.colouring ∙ simp length-set
 
 pub returns : goal.returns
 returns c =

@@ -28,7 +28,7 @@ pub loop-v-smaller-then-labels-v-eq0 : goal.loop-v-smaller-then-labels-v-eq0
 loop-v-smaller-then-labels-v-eq0 c = omega (arith, c.loop-v-test.true)
 
 pub loop-v-preserved-then-labels-v-eq0 : goal.loop-v-preserved-then-labels-v-eq0
-loop-v-preserved-then-labels-v-eq0 c = labelling_turn c.loop-v.invariant c.loop-v-test.true c.relabel_own.ensures.colouring_unchanged c.relabel_own.auto.1.1.1.1.1.0 c.relabel_own.ensures.renewed
+loop-v-preserved-then-labels-v-eq0 c = labelling_turn c.loop-v.invariant c.loop-v-test.true c.relabel_own.ensures.colouring_unchanged c.relabel_own.auto.queue c.relabel_own.ensures.renewed
 
 pub loop-v-smaller : goal.loop-v-smaller
 loop-v-smaller c = omega (arith, c.loop-v-test.true)

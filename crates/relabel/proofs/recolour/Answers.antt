@@ -12,15 +12,15 @@ pub pieces_at-pieces-requires : goal.pieces_at-pieces-requires
 pieces_at-pieces-requires c = record { net = c.requires.net; ready = c.requires.ready; region = c.requires.region }
 
 pub bounds-colouring-z-2 : goal.bounds-colouring-z-2
-bounds-colouring-z-2 c = omega (arith, c.pieces_at-pieces.auto.1.1.1.0, c.requires.ready.size, c.requires.region)
+bounds-colouring-z-2 c = omega (arith, c.pieces_at-pieces.auto.colouring, c.requires.ready.size, c.requires.region)
 
 pub leave-left-requires : goal.leave-left-requires
-leave-left-requires c = recolouring_leave c.requires (ap (λ (l : List ℕ). lift l c.args.region) c.pieces_at-pieces.ensures.colouring_unchanged) _ c.pieces_at-pieces.auto.1.1.1.1.0 c.pieces_at-pieces.ensures.value
+leave-left-requires c = recolouring_leave c.requires (ap (λ (l : List ℕ). lift l c.args.region) c.pieces_at-pieces.ensures.colouring_unchanged) _ c.pieces_at-pieces.auto.queue c.pieces_at-pieces.ensures.value
 
 pub come-requires : goal.come-requires
 come-requires c =
     let e = ap (λ (l : List ℕ). lift l c.args.region) c.pieces_at-pieces.ensures.colouring_unchanged in
-    let q = c.leave-left.auto.1.1.1.1.1.0 ∙ c.pieces_at-pieces.kept.queue in
+    let q = c.leave-left.auto.queue ∙ c.pieces_at-pieces.auto.queue in
     recolouring_come c.requires e c.leave-left.ensures.labels_after c.leave-left.ensures.colouring_unchanged _ q
 
 pub overflow_add-relabelled : goal.overflow_add-relabelled
@@ -29,7 +29,7 @@ overflow_add-relabelled c =
     omega (arith, (recolouring_end c.requires e c.leave-left.ensures.labels_after c.leave-left.ensures.colouring_unchanged c.leave-left.ensures.value c.come.ensures.labels_after c.come.ensures.value).few, (goal.at.overflow_add-relabelled c).Start)
 
 pub shape_of-colouring : goal.shape_of-colouring
-shape_of-colouring c = c.come.auto.1.1.1.0 ∙ c.leave-left.kept.colouring ∙ simp length-set c.pieces_at-pieces.kept.colouring
+shape_of-colouring c = c.come.auto.colouring ∙ c.leave-left.auto.colouring ∙ simp length-set c.pieces_at-pieces.auto.colouring
 
 pub returns : goal.returns
 returns c =

@@ -5,10 +5,10 @@ use Rattle.review.specs.Printed.{figure_lines}
 use Rattle.review.proofs.put_figures.Goals as goal
 
 pub put_lines-past_failed-requires : goal.put_lines-past_failed-requires
-put_lines-past_failed-requires c = omega (arith, c.requires, c.put_lines-past_counts.auto.0, c.put_lines-past_counts.ensures.upper_bound, slice-aggregate-put-lines-2 (goal.at.put_lines-past_failed-requires c).After-failed-2-1)
+put_lines-past_failed-requires c = omega (arith, c.requires, c.put_lines-past_counts.auto.text, c.put_lines-past_counts.ensures.upper_bound, slice-aggregate-put-lines-2 (goal.at.put_lines-past_failed-requires c).After-failed-2-1)
 
 pub put_lines-requires : goal.put_lines-requires
-put_lines-requires c = omega (arith, c.requires, c.put_lines-past_counts.auto.0, c.put_lines-past_counts.ensures.upper_bound, c.put_lines-past_failed.auto.0, c.put_lines-past_failed.ensures.upper_bound, slice-aggregate-put-lines-2 (goal.at.put_lines-requires c).After-failed-2-1)
+put_lines-requires c = omega (arith, c.requires, c.put_lines-past_counts.auto.text, c.put_lines-past_counts.ensures.upper_bound, c.put_lines-past_failed.auto.text, c.put_lines-past_failed.ensures.upper_bound, slice-aggregate-put-lines-2 (goal.at.put_lines-requires c).After-failed-2-1)
 
 pub returns : goal.returns
 returns c =

@@ -93,7 +93,7 @@ pub restore-requires : goal.restore-requires
 restore-requires c = rw c.skip-i.invariant.flood.size c.skip-i.invariant.flood
 
 pub shape_of-colouring : goal.shape_of-colouring
-shape_of-colouring c = c.restore.auto.0 ∙ c.skip-i.invariant.flood.size ∙ sym c.skip-i.invariant.given.ready.size
+shape_of-colouring c = c.restore.auto.colouring ∙ c.skip-i.invariant.flood.size ∙ sym c.skip-i.invariant.given.ready.size
 
 pub shape_of-queue : goal.shape_of-queue
 shape_of-queue c = c.skip-i.invariant.kept

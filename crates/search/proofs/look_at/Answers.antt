@@ -5,7 +5,7 @@ use Rattle.search.specs.Remembered.{remembered_same}
 use Rattle.search.proofs.look_at.Goals as goal
 
 pub pieces_of-left-requires : goal.pieces_of-left-requires
-pieces_of-left-requires c = record { lifting = looking_lifting c.requires.looking c.meet-met.ensures.colouring_unchanged c.meet-met.auto.1.1.1.1.1.1.0; remembered = remembered_same c.meet-met.ensures.colouring_unchanged c.requires.remembered }
+pieces_of-left-requires c = record { lifting = looking_lifting c.requires.looking c.meet-met.ensures.colouring_unchanged c.meet-met.auto.queue; remembered = remembered_same c.meet-met.ensures.colouring_unchanged c.requires.remembered }
 
 pub returns : goal.returns
 returns c = record { remembered_2 = remembered_same (sym c.meet-met.ensures.colouring_unchanged) c.pieces_of-left.ensures.remembered_2; looked = looked_both c.meet-met.ensures.colouring_unchanged c.meet-met.ensures.meets c.pieces_of-left.ensures.value; colouring_unchanged = c.pieces_of-left.ensures.colouring_unchanged ∙ c.meet-met.ensures.colouring_unchanged }

@@ -76,7 +76,7 @@ pub restore-requires : goal.restore-requires
 restore-requires c = rw c.shared_slice_known-6-1.invariant.flood.size c.shared_slice_known-6-1.invariant.flood
 
 pub shape_of-colouring : goal.shape_of-colouring
-shape_of-colouring c = c.restore.auto.0 ∙ c.shared_slice_known-6-1.invariant.flood.size ∙ sym c.shared_slice_known-6-1.invariant.given.ready.size
+shape_of-colouring c = c.restore.auto.colouring ∙ c.shared_slice_known-6-1.invariant.flood.size ∙ sym c.shared_slice_known-6-1.invariant.given.ready.size
 
 pub shape_of-queue : goal.shape_of-queue
 shape_of-queue c = c.shared_slice_known-6-1.invariant.kept

@@ -12,7 +12,7 @@ pub offset_bounds-colouring-z-2 : goal.offset_bounds-colouring-z-2
 offset_bounds-colouring-z-2 c = omega (arith, c.requires.swapping.first, c.requires.swapping.basis.limits.R)
 
 pub bounds-colouring-z-2 : goal.bounds-colouring-z-2
-bounds-colouring-z-2 c = omega (arith, c.requires.swapping.first, c.requires.swapping.basis.coloured.size, c.change_at-once.auto.1.1.1.1.1.1.1.1.1.1.1.1.1.1.1.0)
+bounds-colouring-z-2 c = omega (arith, c.requires.swapping.first, c.requires.swapping.basis.coloured.size, c.change_at-once.auto.colouring)
 
 pub change_anew-twice-requires : goal.change_anew-twice-requires
 change_anew-twice-requires c =
@@ -34,10 +34,10 @@ shape_of-colouring c =
     simp length-set ((swapping_coloured c.requires.swapping mid).size ∙ sym c.requires.swapping.basis.coloured.size)
 
 pub shape_of-queue : goal.shape_of-queue
-shape_of-queue c = c.change_anew-twice.auto.1.1.1.1.1.1.1.1.1.1.1.1.1.1.1.1.0 ∙ c.change_at-once.auto.1.1.1.1.1.1.1.1.1.1.1.1.1.1.1.1.1.1.0
+shape_of-queue c = c.change_anew-twice.auto.queue ∙ c.change_at-once.auto.queue
 
 pub shape_of-known : goal.shape_of-known
-shape_of-known c = c.change_at-once.auto.1.1.1.1.1.1.1.1.1.1.1.1.1.1.1.1.1.1.1.0
+shape_of-known c = c.change_at-once.auto.known
 
 pub returns : goal.returns
 returns c =

@@ -20,27 +20,27 @@ turn-twice-requires c =
     )
 
 pub slice_bounds-old-end : goal.slice_bounds-old-end
-slice_bounds-old-end c = omega (arith, c.copy.kept.to, c.requires.swapping.basis.limits.R)
+slice_bounds-old-end c = omega (arith, c.copy.auto.to, c.requires.swapping.basis.limits.R)
 
 pub slice_bounds-differing-end : goal.slice_bounds-differing-end
-slice_bounds-differing-end c = sym (length-take-le _ c.copy.new.to (omega (arith, c.copy.kept.to, c.requires.swapping.basis.limits.R)))
+slice_bounds-differing-end c = sym (length-take-le _ c.copy.new.to (omega (arith, c.copy.auto.to, c.requires.swapping.basis.limits.R)))
 
 pub differing-requires : goal.differing-requires
 differing-requires c =
-    length-take-le _ c.copy.new.to (omega (arith, c.copy.kept.to, c.requires.swapping.basis.limits.R))
-    ∙ sym (c.turn-arg-6-1.auto.1.1.1.1.1.1.1.1.1.1.1.1.1.1.1.1.0 ∙ c.turn-once.auto.1.1.1.1.1.1.1.1.1.1.1.1.1.1.1.1.0 ∙ swapping_size c.requires.swapping c.requires.labels_value)
+    length-take-le _ c.copy.new.to (omega (arith, c.copy.auto.to, c.requires.swapping.basis.limits.R))
+    ∙ sym (c.turn-arg-6-1.auto.1.1.1.1.1.1.1.1.1.1.1.1.1.1.1.1.0 ∙ c.turn-once.auto.labels ∙ swapping_size c.requires.swapping c.requires.labels_value)
 
 pub together-requires : goal.together-requires
 together-requires c = swapping_addable c.requires.swapping c.turn-once.ensures.followed.colouring (followed_turns c.turn-once.ensures.followed c.turn-once.ensures.single) (followed_turns c.turn-arg-6-1.ensures.0 c.turn-arg-6-1.ensures.1)
 
 pub shape_of-colouring : goal.shape_of-colouring
-shape_of-colouring c = c.turn-arg-6-1.auto.1.1.1.1.1.1.1.1.1.1.1.1.1.1.1.0 ∙ c.turn-once.auto.1.1.1.1.1.1.1.1.1.1.1.1.1.1.1.0
+shape_of-colouring c = c.turn-arg-6-1.auto.1.1.1.1.1.1.1.1.1.1.1.1.1.1.1.0 ∙ c.turn-once.auto.colouring
 
 pub shape_of-labels : goal.shape_of-labels
-shape_of-labels c = c.turn-arg-6-1.auto.1.1.1.1.1.1.1.1.1.1.1.1.1.1.1.1.0 ∙ c.turn-once.auto.1.1.1.1.1.1.1.1.1.1.1.1.1.1.1.1.0
+shape_of-labels c = c.turn-arg-6-1.auto.1.1.1.1.1.1.1.1.1.1.1.1.1.1.1.1.0 ∙ c.turn-once.auto.labels
 
 pub shape_of-queue : goal.shape_of-queue
-shape_of-queue c = c.turn-arg-6-1.auto.1.1.1.1.1.1.1.1.1.1.1.1.1.1.1.1.1.0 ∙ c.turn-once.auto.1.1.1.1.1.1.1.1.1.1.1.1.1.1.1.1.1.0
+shape_of-queue c = c.turn-arg-6-1.auto.1.1.1.1.1.1.1.1.1.1.1.1.1.1.1.1.1.0 ∙ c.turn-once.auto.queue
 
 pub returns : goal.returns
 returns c = swapping_followed c.requires.swapping c.requires.labels_value c.turn-once.ensures.followed _ c.turn-arg-6-1.ensures.0 c.turn-once.ensures.single c.turn-arg-6-1.ensures.1 c.copy.ensures c.differing.ensures TODO_c.together.ensures

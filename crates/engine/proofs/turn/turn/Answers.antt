@@ -14,16 +14,16 @@ pub swing_at-dwell-requires : goal.swing_at-dwell-requires
 swing_at-dwell-requires c = let r = turning_pricing c.requires.turning c.requires.flown c.meet-met.ensures.colouring_unchanged in record { pricing = r.0; in_range = r.1 }
 
 pub recolour-labelled-requires : goal.recolour-labelled-requires
-recolour-labelled-requires c = turning_labels c.requires.turning c.meet-met.ensures.colouring_unchanged c.meet-met.auto.1.1.1.1.1.1.0 c.requires.labels_value
+recolour-labelled-requires c = turning_labels c.requires.turning c.meet-met.ensures.colouring_unchanged c.meet-met.auto.queue c.requires.labels_value
 
 pub change_of-change-requires : goal.change_of-change-requires
 change_of-change-requires c = turning_movable c.requires.turning c.requires.before_value (looked_both c.meet-met.ensures.colouring_unchanged c.meet-met.ensures.meets c.recolour-labelled.ensures.pieces_value)
 
 pub shape_of-colouring : goal.shape_of-colouring
-shape_of-colouring c = c.recolour-labelled.auto.1.1.1.0 ∙ c.meet-met.auto.1.1.1.1.1.0
+shape_of-colouring c = c.recolour-labelled.auto.colouring ∙ c.meet-met.auto.colouring
 
 pub shape_of-queue : goal.shape_of-queue
-shape_of-queue c = c.recolour-labelled.auto.1.1.1.1.1.0 ∙ c.meet-met.auto.1.1.1.1.1.1.0
+shape_of-queue c = c.recolour-labelled.auto.queue ∙ c.meet-met.auto.queue
 
 pub returns : goal.returns
 returns c =

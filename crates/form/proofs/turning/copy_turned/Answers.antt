@@ -6,7 +6,7 @@ use Rattle.form.specs.Turning.{turned-front}
 use Rattle.form.proofs.turning.copy_turned.Goals as goal
 
 pub slice_bounds-turn-end-2 : goal.slice_bounds-turn-end-2
-slice_bounds-turn-end-2 c = sym (length-take-le _ _ (omega (arith, c.copy.auto.1.0, c.requires)))
+slice_bounds-turn-end-2 c = sym (length-take-le _ _ (omega (arith, c.copy.auto.to, c.requires)))
 
 pub returns : goal.returns
 returns c = turned-front c.args.constraints.now c.args.list.now c.copy.ensures refl c.turn.ensures

@@ -7,7 +7,7 @@ use Rattle.judge.specs.Tallies.{tallied_start, tallied_length, tallied_end, tall
 use Rattle.judge.proofs.tallies.tally_components.Goals as goal
 
 pub loop-i-init : goal.loop-i-init
-loop-i-init c = tallied_start c.clear.auto.0 c.clear.ensures c.requires
+loop-i-init c = tallied_start c.clear.auto.numbers c.clear.ensures c.requires
 
 pub add_to-requires : goal.add_to-requires
 add_to-requires c =
@@ -20,7 +20,7 @@ loop-i-preserved c =
     (tallied_turn c.loop-i.invariant c.loop-i-test.true c.lead_at.ensures)
 
 pub shape_of-counts : goal.shape_of-counts
-shape_of-counts c = tallied_length c.clear.auto.0 c.loop-i.invariant
+shape_of-counts c = tallied_length c.clear.auto.numbers c.loop-i.invariant
 
 pub returns : goal.returns
-returns c = tallied_end c.clear.auto.0 c.loop-i.invariant c.loop-i-test.false
+returns c = tallied_end c.clear.auto.numbers c.loop-i.invariant c.loop-i-test.false

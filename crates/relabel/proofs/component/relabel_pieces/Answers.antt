@@ -44,13 +44,13 @@ pub loop-j-smaller : goal.loop-j-smaller
 loop-j-smaller c = omega (arith, c.loop-j-test.true)
 
 pub loop-j-preserved : goal.loop-j-preserved
-loop-j-preserved c = repairing_turn c.loop-j.invariant c.loop-j-test.true c.label_from-reach.auto.1.1.1.1.1.0 c.label_from-reach.ensures
+loop-j-preserved c = repairing_turn c.loop-j.invariant c.loop-j-test.true c.label_from-reach.auto.queue c.label_from-reach.ensures
 
 pub restore-requires : goal.restore-requires
 restore-requires c = sowing_restore c.shared_slice_known-5-1.invariant.sowing
 
 pub shape_of-colouring : goal.shape_of-colouring
-shape_of-colouring c = c.restore.auto.0 ∙ c.shared_slice_known-5-1.invariant.sowing.whole.flood.size ∙ sym c.shared_slice_known-5-1.invariant.given.ready.size
+shape_of-colouring c = c.restore.auto.colouring ∙ c.shared_slice_known-5-1.invariant.sowing.whole.flood.size ∙ sym c.shared_slice_known-5-1.invariant.given.ready.size
 
 pub shape_of-labels : goal.shape_of-labels
 shape_of-labels c = c.shared_slice_known-5-1.invariant.sowing.size ∙ sym loop.before.before.before.before.before.before.before.before.before.requires.1

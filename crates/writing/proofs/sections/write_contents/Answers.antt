@@ -8,28 +8,28 @@ use Rattle.writing.proofs.sections.write_contents.Goals.{After-write_colouring-f
 
 -- each step leaves as many bytes as it was lent
 kept-workloads : (c : After-write_workloads-first) → length c.write_workloads-first.new.1.0 ≡ length c.args.sheet.now
-kept-workloads c = c.write_workloads-first.auto.1.0 ∙ c.write_head-first.auto.1.0
+kept-workloads c = c.write_workloads-first.auto.sheet ∙ c.write_head-first.auto.sheet
 
 kept-outside : (c : After-write_outside-first) → length c.write_outside-first.new.1.0 ≡ length c.args.sheet.now
-kept-outside c = c.write_outside-first.auto.1.0 ∙ kept-workloads c
+kept-outside c = c.write_outside-first.auto.sheet ∙ kept-workloads c
 
 kept-edges : (c : After-write_edges-first) → length c.write_edges-first.new.1.0 ≡ length c.args.sheet.now
-kept-edges c = c.write_edges-first.auto.1.0 ∙ kept-outside c
+kept-edges c = c.write_edges-first.auto.sheet ∙ kept-outside c
 
 kept-constraints : (c : After-write_constraints-first) → length c.write_constraints-first.new.1.0 ≡ length c.args.sheet.now
-kept-constraints c = c.write_constraints-first.auto.1.0 ∙ kept-edges c
+kept-constraints c = c.write_constraints-first.auto.sheet ∙ kept-edges c
 
 kept-colouring : (c : After-write_colouring-first) → length c.write_colouring-first.new.1.0 ≡ length c.args.sheet.now
-kept-colouring c = c.write_colouring-first.auto.1.0 ∙ kept-constraints c
+kept-colouring c = c.write_colouring-first.auto.sheet ∙ kept-constraints c
 
 kept-counts : (c : After-write_counts-first) → length c.write_counts-first.new.1.0 ≡ length c.args.sheet.now
-kept-counts c = c.write_counts-first.auto.1.0 ∙ kept-colouring c
+kept-counts c = c.write_counts-first.auto.sheet ∙ kept-colouring c
 
 pub write_head-first-requires : goal.write_head-first-requires
 write_head-first-requires c = c.requires.has_blocks
 
 pub write_workloads-first-requires : goal.write_workloads-first-requires
-write_workloads-first-requires c = record { has_blocks = has_kept c.requires.has_blocks c.write_head-first.auto.1.0; first_value = (c.write_head-first.ensures.value, c.requires.so_many.of_workloads) }
+write_workloads-first-requires c = record { has_blocks = has_kept c.requires.has_blocks c.write_head-first.auto.sheet; first_value = (c.write_head-first.ensures.value, c.requires.so_many.of_workloads) }
 
 pub write_outside-first-requires : goal.write_outside-first-requires
 write_outside-first-requires c = record { has_blocks = has_kept c.requires.has_blocks (kept-workloads (goal.at.write_outside-first-requires c).After-write_workloads-first); first_value = (c.write_workloads-first.ensures.value, c.requires.so_many.of_outside_lem) }
@@ -50,7 +50,7 @@ pub write_visits-requires : goal.write_visits-requires
 write_visits-requires c = record { has_blocks = has_kept c.requires.has_blocks (kept-counts (goal.at.write_visits-requires c).After-write_counts-first); first_value = (c.write_counts-first.ensures.value, c.requires.so_many.of_visits) }
 
 pub shape_of-sheet : goal.shape_of-sheet
-shape_of-sheet c = c.write_visits.auto.1.0 ∙ kept-counts (goal.at.shape_of-sheet c).After-write_counts-first
+shape_of-sheet c = c.write_visits.auto.sheet ∙ kept-counts (goal.at.shape_of-sheet c).After-write_counts-first
 
 pub returns : goal.returns
 unfolding layouts
