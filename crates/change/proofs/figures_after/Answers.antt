@@ -6,23 +6,23 @@ pub shifted-requires-2 : goal.shifted-requires-2
 shifted-requires-2 c = rw (c.less_one.ensures, c.less_one-2.ensures) c.requires.excess
 
 pub off_balance-requires-2 : goal.off_balance-requires-2
-off_balance-requires-2 c = record { sectors_le_most_sectors = c.components-1.sectors; at_most = c.components-1.after }
+off_balance-requires-2 c = record { sectors_le_most_sectors = c.requires.sectors; at_most = c.requires.after }
 
 pub shifted-requires-3 : goal.shifted-requires-3
-shifted-requires-3 c = rw (c.off_balance.ensures, c.off_balance-2.ensures) c.components-1.deviation
+shifted-requires-3 c = rw (c.off_balance.ensures, c.off_balance-2.ensures) c.requires.deviation
 
 pub returns : goal.returns
 unfolding figures_after
 returns c =
     rw (
-      c.swung-arg-1.ensures,
-      c.off_balance-2.ensures,
+      c.shifted.ensures,
+      c.shifted-2.ensures,
+      c.less_one.ensures,
+      c.less_one-2.ensures,
       c.swung.ensures,
-      c.off_balance.ensures,
       c.shifted-3.ensures,
+      c.off_balance.ensures,
+      c.off_balance-2.ensures,
       c.shifted-4.ensures,
-      c.shifted-arg-1.ensures,
-      c.shifted-arg-2-1.ensures,
-      c.swung-arg-2-1.ensures,
       c.swung-2.ensures,
     )

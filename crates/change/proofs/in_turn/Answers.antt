@@ -2,4 +2,4 @@
 use Rattle.change.proofs.in_turn.Goals as goal
 
 pub returns : goal.returns
-returns c = rw (c.both-arg-3-1.ensures, c.both-arg-4-1.ensures, c.both-2.ensures)
+returns c = rw (c.turned_round-after.ensures, c.both.ensures, c.both-2.ensures)

@@ -7,5 +7,5 @@ use Rattle.refusals.proofs.plain_refusal.Goals as goal
 pub returns : goal.returns
 unfolding plan_table in_turn
 returns c =
-    rw (c.or_from_edges.ensures, c.or_from_edges-arg-2-1.ensures, c.or_from_edges-arg-1.ensures)
+    rw (c.or_from_edges.ensures, c.or_numbers.ensures, c.size_refusal.ensures)
     (plain_in_turn _ _ _ _ _ _ _ _ _)

@@ -26,7 +26,7 @@ come-requires c =
 pub overflow_add-relabelled : goal.overflow_add-relabelled
 overflow_add-relabelled c =
     let e = ap (λ (l : List ℕ). lift l c.args.region) c.pieces_at-pieces.ensures.colouring_unchanged in
-    omega (arith, (recolouring_end c.requires e c.leave-left.ensures.labels_after c.leave-left.ensures.colouring_unchanged c.leave-left.ensures.value c.come.ensures.labels_after c.come.ensures.value).few, (goal.at.overflow_add-relabelled c).Start)
+    omega (arith, (recolouring_end c.requires e c.leave-left.ensures.labels_after c.leave-left.ensures.colouring_unchanged c.leave-left.ensures.value c.come.ensures.labels_after c.come.ensures.value).few, c)
 
 pub shape_of-colouring : goal.shape_of-colouring
 shape_of-colouring c = c.come.auto.colouring ∙ c.leave-left.auto.colouring ∙ simp length-set c.pieces_at-pieces.auto.colouring
@@ -35,4 +35,4 @@ pub returns : goal.returns
 returns c =
     let e = ap (λ (l : List ℕ). lift l c.args.region) c.pieces_at-pieces.ensures.colouring_unchanged in
     let made = recolouring_end c.requires e c.leave-left.ensures.labels_after c.leave-left.ensures.colouring_unchanged c.leave-left.ensures.value c.come.ensures.labels_after c.come.ensures.value in
-record { colouring_after = c.come.ensures.colouring_after ∙ recolouring-put c.requires (c.leave-left.ensures.colouring_unchanged ∙ e); labels_after = made.labelled; relabelled_value = made.number; pieces_value = c.pieces_at-pieces.ensures.value }
+    record { colouring_after = c.come.ensures.colouring_after ∙ recolouring-put c.requires (c.leave-left.ensures.colouring_unchanged ∙ e); labels_after = made.labelled; relabelled_value = made.number; pieces_value = c.pieces_at-pieces.ensures.value }

@@ -24,10 +24,10 @@ pub bounds-start-region-2 : goal.bounds-start-region-2
 bounds-start-region-2 c = omega (arith, counting_row c.requires)
 
 pub skip-i-requires : goal.skip-i-requires
-skip-i-requires c = counting_span c.before.before.before.before.before.before.before.before.requires
+skip-i-requires c = counting_span c.requires
 
 pub loop-i-init : goal.loop-i-init
-loop-i-init c = searching_start c.before.before.before.before.before.before.before.before.before.requires c.skip-i.ensures
+loop-i-init c = searching_start c.requires c.skip-i.ensures
 
 pub offset_bounds-queue-h : goal.offset_bounds-queue-h
 offset_bounds-queue-h c = omega (arith, c.if-h-e.true, flood_top c.loop-i.invariant.flood, c.loop-i.invariant.flood.room)
@@ -42,13 +42,13 @@ pub expand-e-requires : goal.expand-e-requires
 expand-e-requires c = searching_next c.loop-i.invariant c.if-h-e.true
 
 pub skip-i-requires-then-h-e : goal.skip-i-requires-then-h-e
-skip-i-requires-then-h-e c = searching_span c.skip-i.invariant c.expand-arg-then-h-e-1.ensures.grown.flood.size (omega (arith, c.skip-i.invariant.scan.passed)) (omega (arith, c.skip-i.invariant.scan.passed))
+skip-i-requires-then-h-e c = searching_span c.loop-i.invariant c.expand-e.ensures.grown.flood.size (omega (arith, c.loop-i.invariant.scan.passed)) (omega (arith, c.loop-i.invariant.scan.passed))
 
 pub loop-i-smaller-then-h-e : goal.loop-i-smaller-then-h-e
-loop-i-smaller-then-h-e c = omega (arith, c.loop-i-test.true, flood_top c.skip-i.invariant.flood, c.expand-arg-then-h-e-1.ensures.grown.more)
+loop-i-smaller-then-h-e c = omega (arith, c.if-h-e.true, flood_top c.loop-i.invariant.flood, c.expand-e.ensures.grown.more)
 
 pub loop-i-preserved-then-h-e : goal.loop-i-preserved-then-h-e
-loop-i-preserved-then-h-e c = searching_pop c.skip-i.invariant c.loop-i-test.true c.expand-arg-then-h-e-1.ensures c.skip-i-then-h-e.ensures
+loop-i-preserved-then-h-e c = searching_pop c.loop-i.invariant c.if-h-e.true c.expand-e.ensures c.skip-i-then-h-e.ensures
 
 pub offset_bounds-near-i : goal.offset_bounds-near-i
 offset_bounds-near-i c = omega (arith, counting_row c.loop-i.invariant.given, c.loop-i-test.true)
@@ -78,25 +78,25 @@ pub overflow_add-n : goal.overflow_add-n
 overflow_add-n c = omega (arith, searching_few c.loop-i.invariant)
 
 pub overflow_add-i : goal.overflow_add-i
-overflow_add-i c = omega (arith, counting_row c.skip-i.invariant.given, c.loop-i.true)
+overflow_add-i c = omega (arith, counting_row c.loop-i.invariant.given, c.loop-i-test.true)
 
 pub skip-i-requires-else-h-e : goal.skip-i-requires-else-h-e
-skip-i-requires-else-h-e c = searching_span c.skip-i.invariant (simp length-set c.skip-i.invariant.flood.size) (omega arith) (omega (arith, c.loop-i.true))
+skip-i-requires-else-h-e c = searching_span c.loop-i.invariant (simp length-set c.loop-i.invariant.flood.size) (omega arith) (omega (arith, c.loop-i-test.true))
 
 pub loop-i-smaller : goal.loop-i-smaller
-loop-i-smaller c = omega (arith, c.loop-i-test.false, searching_room c.skip-i.invariant c.loop-i.true, c.skip-i.invariant.head)
+loop-i-smaller c = omega (arith, c.if-h-e.false, searching_room c.loop-i.invariant c.loop-i-test.true, c.loop-i.invariant.head)
 
 pub loop-i-preserved : goal.loop-i-preserved
-loop-i-preserved c = searching_new c.skip-i.invariant c.loop-i-test.false c.loop-i.true c.skip-i-else-h-e.ensures
+loop-i-preserved c = searching_new c.loop-i.invariant c.if-h-e.false c.loop-i-test.true c.skip-i-else-h-e.ensures
 
 pub restore-requires : goal.restore-requires
-restore-requires c = rw c.skip-i.invariant.flood.size c.skip-i.invariant.flood
+restore-requires c = rw c.loop-i.invariant.flood.size c.loop-i.invariant.flood
 
 pub shape_of-colouring : goal.shape_of-colouring
-shape_of-colouring c = c.restore.auto.colouring ∙ c.skip-i.invariant.flood.size ∙ sym c.skip-i.invariant.given.ready.size
+shape_of-colouring c = c.restore.auto.colouring ∙ c.loop-i.invariant.flood.size ∙ sym c.loop-i.invariant.given.ready.size
 
 pub shape_of-queue : goal.shape_of-queue
-shape_of-queue c = c.skip-i.invariant.kept
+shape_of-queue c = c.loop-i.invariant.kept
 
 pub returns : goal.returns
-returns c = record { value = searching_end c.skip-i.invariant c.loop-i.false; colouring_unchanged = c.restore.ensures ∙ c.skip-i.invariant.same }
+returns c = record { value = searching_end c.loop-i.invariant c.loop-i-test.false; colouring_unchanged = c.restore.ensures ∙ c.loop-i.invariant.same }

@@ -6,9 +6,7 @@ pub count_beside-joined-requires : goal.count_beside-joined-requires
 count_beside-joined-requires c = looking_counting c.requires
 
 pub areas_of-faces-requires : goal.areas_of-faces-requires
-areas_of-faces-requires c =
-    let k = c.before.before.before.before.before.before.before.before.before.before.before.before.before.before.before.requires in
-record { weighable = looking_weighable k c.count_beside-arg-2-1.ensures.1; comparable = looking_comparable k c.count_beside-arg-2-1.ensures.1 }
+areas_of-faces-requires c = record { weighable = looking_weighable c.requires c.count_beside-joined.ensures.colouring_unchanged; comparable = looking_comparable c.requires c.count_beside-joined.ensures.colouring_unchanged }
 
 pub returns : goal.returns
-returns c = record { meets = looking_meets c.before.before.before.before.before.before.before.before.before.before.before.before.before.before.before.before.requires c.count_beside-arg-2-1.ensures.1 c.count_beside-arg-2-1.ensures.0 TODO_c.areas-of.ensures; colouring_unchanged = c.count_beside-arg-2-1.ensures.1 }
+returns c = record { meets = looking_meets c.requires c.count_beside-joined.ensures.colouring_unchanged c.count_beside-joined.ensures.value (c.areas_of-faces.ensures.here_value, c.areas_of-faces.ensures.there_value); colouring_unchanged = c.count_beside-joined.ensures.colouring_unchanged }

@@ -4,7 +4,7 @@ use Rattle.search.specs.Same.{part-le, part_left}
 use Rattle.search.proofs.part_elsewhere.Goals as goal
 
 pub part-requires : goal.part-requires
-part-requires c = let r = TODO_c.requires in record { shown_bound = r.0; sector_bound = r.1 }
+part-requires c = record { shown_bound = c.requires.shown_bound; sector_bound = c.requires.sector_bound }
 
 pub overflow_sub-result : goal.overflow_sub-result
 overflow_sub-result c = part-le c.args.area (eqb c.args.shown c.args.sector) c.part.ensures

@@ -73,13 +73,13 @@ pub loop-j-preserved : goal.loop-j-preserved
 loop-j-preserved c = touching_turn c.loop-j.invariant c.loop-j-test.true c.masked.ensures c.hit-e.ensures.value
 
 pub restore-requires : goal.restore-requires
-restore-requires c = rw c.shared_slice_known-6-1.invariant.flood.size c.shared_slice_known-6-1.invariant.flood
+restore-requires c = rw c.loop-j.invariant.flood.size c.loop-j.invariant.flood
 
 pub shape_of-colouring : goal.shape_of-colouring
-shape_of-colouring c = c.restore.auto.colouring ∙ c.shared_slice_known-6-1.invariant.flood.size ∙ sym c.shared_slice_known-6-1.invariant.given.ready.size
+shape_of-colouring c = c.restore.auto.colouring ∙ c.loop-j.invariant.flood.size ∙ sym c.loop-j.invariant.given.ready.size
 
 pub shape_of-queue : goal.shape_of-queue
-shape_of-queue c = c.shared_slice_known-6-1.invariant.kept
+shape_of-queue c = c.loop-j.invariant.kept
 
 pub returns : goal.returns
-returns c = record { value = touching_end c.shared_slice_known-6-1.invariant c.loop-j.false; colouring_unchanged = c.restore.ensures ∙ c.shared_slice_known-6-1.invariant.same }
+returns c = record { value = touching_end c.loop-j.invariant c.loop-j-test.false; colouring_unchanged = c.restore.ensures ∙ c.loop-j.invariant.same }

@@ -6,7 +6,7 @@ use Rattle.visitors.specs.Visitors.{laid_cells, laid_ends, laid_visitors}
 use Rattle.visitors.proofs.gather_visitors.Goals as goal
 
 pub slice_bounds-gather-end : goal.slice_bounds-gather-end
-slice_bounds-gather-end c = sym (length-take-le c.put_flights-taken.result c.put_flights-taken.new.1.1.1.0 c.put_flights-taken.ensures.fits)
+slice_bounds-gather-end c = sym (length-take-le c.put_flights-taken.result c.put_flights-taken.new.hops c.put_flights-taken.ensures.fits)
 
 pub gather-requires : goal.gather-requires
 gather-requires c = record { ends = laid_ends c.put_flights-taken.ensures c.requires.starts_len c.requires.flying; in_bounds = omega arith; edge_length_in_bounds = omega (arith, laid_cells c.put_flights-taken.ensures c.requires.flying); areas_len = c.requires.firsts_len }

@@ -39,7 +39,7 @@ pub overflow_add-after : goal.overflow_add-after
 overflow_add-after c = omega (arith, (both_room c.loop-j.invariant c.loop-j-test.true c.price_cell_both-cell.ensures).1)
 
 pub overflow_add-j : goal.overflow_add-j
-overflow_add-j c = omega (arith, row_fits c.loop-j.invariant.before.row, c.loop-j-test.true, c.well-formed.1.1.1.1.0)
+overflow_add-j c = omega (arith, row_fits c.loop-j.invariant.before.row, c.loop-j-test.true, c.well_formed.1.1.1.1.0)
 
 pub loop-j-preserved : goal.loop-j-preserved
 loop-j-preserved c = both_turn c.loop-j.invariant c.loop-j-test.true c.price_cell_both-cell.ensures

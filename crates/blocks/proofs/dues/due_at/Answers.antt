@@ -18,12 +18,12 @@ block_count-count-requires c = rw c.section_at-section.ensures (sections_sized c
 pub overflow_mul-left : goal.overflow_mul-left
 overflow_mul-left c =
     let z : Sized c.section_at-section.result = rw c.section_at-section.ensures (sections_sized c.requires c.loop-i-test.true) in
-    omega (arith, count-before c.section_at-section.result.size c.section_at-section.result.bytes c.loop-i.false z.low (rw c.block_count-count.ensures at c.if-left-count.true))
+    omega (arith, count-before c.section_at-section.result.size c.section_at-section.result.bytes c.loop-i.left z.low (rw c.block_count-count.ensures at c.if-left-count.true))
 
 pub overflow_sub-section : goal.overflow_sub-section
 overflow_sub-section c =
     let z : Sized c.section_at-section.result = rw c.section_at-section.ensures (sections_sized c.requires c.loop-i-test.true) in
-    omega (arith, count-before c.section_at-section.result.size c.section_at-section.result.bytes c.loop-i.false z.low (rw c.block_count-count.ensures at c.if-left-count.true))
+    omega (arith, count-before c.section_at-section.result.size c.section_at-section.result.bytes c.loop-i.left z.low (rw c.block_count-count.ensures at c.if-left-count.true))
 
 pub returns-then-left-count : goal.returns-then-left-count
 returns-then-left-count c =

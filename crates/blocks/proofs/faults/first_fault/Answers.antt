@@ -15,7 +15,7 @@ due_at-due-requires c = c.requires.sections
 pub block_fault-code-requires : goal.block_fault-code-requires
 block_fault-code-requires c =
     let ss = sections_of c.args.kinds.now c.args.sizes.now c.args.bytes.now in
-record { letters_len = c.requires.letters_len; block_length_in_bounds = (omega (arith, c.requires.to_in_bounds.1), rw c.due_at-due.ensures (small_at (due_of ss) c.loop-number.number (small_due ss c.requires.sections.sized))) }
+    record { letters_len = c.requires.letters_len; block_length_in_bounds = (omega (arith, c.requires.to_in_bounds.1), rw c.due_at-due.ensures (small_at (due_of ss) c.loop-number.number (small_due ss c.requires.sections.sized))) }
 
 pub returns-then-code-ne0 : goal.returns-then-code-ne0
 returns-then-code-ne0 c = scan_off c.loop-number.invariant c.loop-number-test.true c.due_at-due.ensures c.block_fault-code.ensures c.if-code-ne0.true

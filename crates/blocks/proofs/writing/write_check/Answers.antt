@@ -6,4 +6,4 @@ use Rattle.blocks.specs.Block.{checked_length}
 use Rattle.blocks.proofs.writing.write_check.Goals as goal
 
 pub returns : goal.returns
-returns c = let a = c.before.before.before.before.before.before.before.before.before.args in c.copy_to.ensures ∙ ap (put a.sheet.now (a.at + checked_length)) c.sums_of-sums.ensures
+returns c = c.copy_to.ensures ∙ ap (put c.args.sheet.now (c.args.at + checked_length)) c.sums_of-sums.ensures

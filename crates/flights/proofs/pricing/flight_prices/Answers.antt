@@ -23,10 +23,10 @@ pub loop-k-preserved : goal.loop-k-preserved
 loop-k-preserved c = walked_turn c.loop-k.invariant c.loop-k-test.true c.stretches_of-visit.ensures c.add_both-firsts.ensures
 
 pub price_from-before-requires : goal.price_from-before-requires
-price_from-before-requires c = record { paying = c.loop-k-test.invariant.before.timing; fits = (walked_ready c.loop-k-test.invariant).before }
+price_from-before-requires c = record { paying = c.loop-k.invariant.before.timing; fits = (walked_ready c.loop-k.invariant).before }
 
 pub price_from-after-requires : goal.price_from-after-requires
-price_from-after-requires c = record { paying = c.price_from-arg-1.invariant.before.timing; fits = (walked_ready c.price_from-arg-1.invariant).after }
+price_from-after-requires c = record { paying = c.loop-k.invariant.before.timing; fits = (walked_ready c.loop-k.invariant).after }
 
 pub returns : goal.returns
-returns c = walked_end c.price_from-arg-1.invariant c.price_from-before.false c.price_from-arg-2-1.ensures c.price_from-after.ensures
+returns c = walked_end c.loop-k.invariant c.loop-k-test.false c.price_from-before.ensures c.price_from-after.ensures

@@ -10,7 +10,7 @@ pub returns-then-sheet-lt-LETTERS_LENGTH : goal.returns-then-sheet-lt-LETTERS_LE
 returns-then-sheet-lt-LETTERS_LENGTH c = formed_short _ c.if-sheet-lt-LETTERS_LENGTH.true
 
 pub slice_bounds-same_bytes-end : goal.slice_bounds-same_bytes-end
-slice_bounds-same_bytes-end c = sym (length-take-le 4 c.before.before.before.args.sheet.now c.shared_slice_known-1.false)
+slice_bounds-same_bytes-end c = sym (length-take-le 4 c.args.sheet.now c.if-sheet-lt-LETTERS_LENGTH.false)
 
 pub same_bytes-requires : goal.same_bytes-requires
 same_bytes-requires c = sym (length-take-le 4 c.args.sheet.now c.if-sheet-lt-LETTERS_LENGTH.false)

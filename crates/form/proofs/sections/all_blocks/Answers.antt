@@ -7,8 +7,8 @@ use Rattle.form.proofs.sections.all_blocks.Goals as goal
 
 pub due_count-requires : goal.due_count-requires
 unfolding layouts
-due_count-requires c = listed c.sizes_of-sizes.form c.sizes_of-sizes.head c.bytes_of-bytes.ensures c.due_count-arg-1.ensures c.sizes_of-sizes
+due_count-requires c = listed c.args.form c.args.head c.sizes_of-sizes.ensures c.bytes_of-bytes.ensures c.requires
 
 pub returns : goal.returns
 unfolding layouts
-returns c = c.due_count.ensures ∙ ap length (listed_dues c.sizes_of-sizes.form c.sizes_of-sizes.head c.bytes_of-bytes.ensures c.due_count-arg-1.ensures)
+returns c = c.due_count.ensures ∙ ap length (listed_dues c.args.form c.args.head c.sizes_of-sizes.ensures c.bytes_of-bytes.ensures)

@@ -19,7 +19,7 @@ visits c = c.block_count-2.ensures ∙ ap blocks_of c.visit_section.ensures
 
 -- so all blocks are those before them, and these
 all_of : (c : After-block_count-2) → c.all_blocks.result ≡ count_first c.args.form c.args.head + c.block_count.result + c.block_count-2.result
-all_of c = c.all_blocks.ensures ∙ blocks_all c.args.form c.args.head ∙ rw (counts c, visits c)
+all_of c = c.all_blocks.ensures ∙ blocks_all c.args.form c.args.head ∙ rw (c.block_count.ensures ∙ ap blocks_of c.count_section.ensures, visits c)
 
 -- what is left of a sum
 left : (sum n a b : ℕ) → sum ≡ n + a + b → (b ≤ sum - a) × (sum - a - b ≡ n)

@@ -10,8 +10,8 @@ use Rattle.form.proofs.sections.due_of.Goals as goal
 
 pub due_at-requires : goal.due_at-requires
 unfolding layouts
-due_at-requires c = listed c.sizes_of-sizes.form c.sizes_of-sizes.head c.bytes_of-bytes.ensures c.due_at-arg-1.ensures c.sizes_of-sizes
+due_at-requires c = listed c.args.form c.args.head c.sizes_of-sizes.ensures c.bytes_of-bytes.ensures c.requires
 
 pub returns : goal.returns
 unfolding layouts
-returns c = c.due_at.ensures ∙ ap (λ (ds : List Due). get_or ds c.sizes_of-sizes.number no_due) (listed_dues c.sizes_of-sizes.form c.sizes_of-sizes.head c.bytes_of-bytes.ensures c.due_at-arg-1.ensures)
+returns c = c.due_at.ensures ∙ ap (λ (ds : List Due). get_or ds c.args.number no_due) (listed_dues c.args.form c.args.head c.sizes_of-sizes.ensures c.bytes_of-bytes.ensures)

@@ -3,4 +3,4 @@ use Rattle.form.specs.Listed.{section_head}
 use Rattle.form.proofs.sections.head_section.Goals as goal
 
 pub returns : goal.returns
-returns c = section_head c.result-1.form c.result-2-1.ensures
+returns c = section_head c.args.form c.head_bytes-bytes.ensures

@@ -4,7 +4,7 @@ use Rattle.form.specs.Listed.{few_outside}
 use Rattle.form.proofs.sections.outside_section.Goals as goal
 
 pub overflow_mul-result : goal.overflow_mul-result
-overflow_mul-result c = omega (arith, c.result-2-1.ensures, few_outside c.result-1.form c.result-1.head.regions)
+overflow_mul-result c = omega (arith, c.outside_count-count.ensures, few_outside c.args.form c.args.head.regions)
 
 pub returns : goal.returns
-returns c = rw c.result-2-1.ensures
+returns c = rw c.outside_count-count.ensures

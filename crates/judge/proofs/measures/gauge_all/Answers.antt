@@ -19,7 +19,7 @@ loop-k-init c = (search rules, mapped_start (c.requires.gauges_len ∙ sym (leng
 pub gauge_of-requires : goal.gauge_of-requires
 gauge_of-requires c =
     let h : c.loop-k.k < constraint_count c.args.constraints.now = omega arith in
-record { few = c.requires.few; constraint_limits = unweighted-limits (constraint_every _ h ConstraintLimits c.requires.every) }
+    record { few = c.requires.few; constraint_limits = unweighted-limits (constraint_every _ h ConstraintLimits c.requires.every) }
 
 pub loop-k-preserved : goal.loop-k-preserved
 unfolding constraints_of gauge_by

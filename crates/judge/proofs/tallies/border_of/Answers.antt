@@ -20,7 +20,7 @@ loop-k-init c = summed_start
 pub border_at-area-requires : goal.border_at-area-requires
 border_at-area-requires c =
     let ends = edge_ends c.args.edges.now c.requires.small_edges c.loop-k.k c.loop-k-test.true in
-record { k_in_bounds = c.loop-k-test.true; in_range = ends.0; in_range_2 = ends.1 }
+    record { k_in_bounds = c.loop-k-test.true; in_range = ends.0; in_range_2 = ends.1 }
 
 pub overflow_add-area : goal.overflow_add-area
 unfolding edges_of

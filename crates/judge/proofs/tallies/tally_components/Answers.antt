@@ -12,7 +12,7 @@ loop-i-init c = tallied_start c.clear.auto.numbers c.clear.ensures c.requires
 pub add_to-requires : goal.add_to-requires
 add_to-requires c =
     let room = tallied_room c.loop-i.invariant c.loop-i-test.true c.lead_at.ensures 1 (λ u. bit_le (leads c.args.labels.now u)) in
-record { in_range = tallied_sector c.loop-i.invariant c.loop-i-test.true; x_bound = omega arith }
+    record { in_range = tallied_sector c.loop-i.invariant c.loop-i-test.true; x_bound = omega arith }
 
 pub loop-i-preserved : goal.loop-i-preserved
 loop-i-preserved c =

@@ -14,7 +14,7 @@ loop-i-init c = tallied_start c.clear.auto.numbers c.clear.ensures c.requires.ta
 pub add_to-requires : goal.add_to-requires
 add_to-requires c =
     let room = tallied_room c.loop-i.invariant c.loop-i-test.true (sym (at_next c.args.workloads.now c.loop-i.i)) most_workload (λ u. get_or_bound c.args.workloads.now (u - 1) c.requires.every) in
-record { in_range = tallied_sector c.loop-i.invariant c.loop-i-test.true; x_bound = omega arith }
+    record { in_range = tallied_sector c.loop-i.invariant c.loop-i-test.true; x_bound = omega arith }
 
 pub loop-i-preserved : goal.loop-i-preserved
 loop-i-preserved c =

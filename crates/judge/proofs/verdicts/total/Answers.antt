@@ -17,7 +17,7 @@ violation-v-requires c = record { small_figures = c.requires.small_figures; cons
 
 pub overflow_mul-total : goal.overflow_mul-total
 unfolding violation_by
-overflow_mul-total c = rw c.violation-v.ensures (omega (arith, weighted_bound c.requires.small_figures c.requires.paying c.loop-k-test.true))
+overflow_mul-total c = record { fits = rw c.violation-v.ensures (omega (arith, weighted_bound c.requires.small_figures c.requires.paying c.loop-k-test.true)) }
 
 pub overflow_add-total-in-loop-k : goal.overflow_add-total-in-loop-k
 unfolding violation_by total_by

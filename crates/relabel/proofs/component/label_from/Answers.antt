@@ -18,16 +18,16 @@ pub grow-e-requires : goal.grow-e-requires
 grow-e-requires c = seeding_grow c.requires c.if-colouring-z.true
 
 pub smallest-label-requires : goal.smallest-label-requires
-smallest-label-requires c = seeding_part shown.before.before.before.before.before.before.before.before.requires c.slice_known-4-1.true c.grow-arg-then-colouring-z-1.ensures
+smallest-label-requires c = seeding_part c.requires c.if-colouring-z.true c.grow-e.ensures
 
 pub write-n-requires : goal.write-n-requires
-write-n-requires c = seeding_span shown.before.before.before.before.before.before.before.before.requires c.slice_known-3-1.true c.grow-arg-1.ensures
+write-n-requires c = seeding_span c.requires c.if-colouring-z.true c.grow-e.ensures
 
 pub shape_of-queue-then-colouring-z : goal.shape_of-queue-then-colouring-z
-shape_of-queue-then-colouring-z c = c.grow-arg-1.ensures.grown.size ∙ simp length-set
+shape_of-queue-then-colouring-z c = c.grow-e.ensures.grown.size ∙ simp length-set
 
 pub returns-then-colouring-z : goal.returns-then-colouring-z
-returns-then-colouring-z c = seeded_some shown.before.before.before.before.before.before.before.before.requires c.slice_known-3-1.true c.grow-arg-1.ensures c.slice_known-then-colouring-z-2-1.ensures c.write-n.ensures
+returns-then-colouring-z c = seeded_some c.requires c.if-colouring-z.true c.grow-e.ensures c.smallest-label.ensures c.write-n.ensures
 
 pub returns : goal.returns
 returns c = seeded_none c.requires c.if-colouring-z.false

@@ -7,11 +7,7 @@ pub label_from-reach-requires : goal.label_from-reach-requires
 label_from-reach-requires c = owning_next c.requires.counting c.requires.labels_len
 
 pub restore-requires : goal.restore-requires
-restore-requires c =
-    let pre = labelled.before.before.before.before.before.before.before.before.before.before.before.requires in
-    sowing_restore (owning_turn pre.0 pre.1 c.label_from-arg-3-1.ensures)
+restore-requires c = sowing_restore (owning_turn c.requires.counting c.requires.labels_len c.label_from-reach.ensures)
 
 pub returns : goal.returns
-returns c =
-    let pre = labelled.before.before.before.before.before.before.before.before.before.before.before.requires in
-record { colouring_unchanged = c.restore.ensures ∙ (owning_turn pre.0 pre.1 c.label_from-arg-3-1.ensures).same; renewed = owning_end pre.0 pre.1 c.label_from-arg-3-1.ensures }
+returns c = record { colouring_unchanged = c.restore.ensures ∙ (owning_turn c.requires.counting c.requires.labels_len c.label_from-reach.ensures).same; renewed = owning_end c.requires.counting c.requires.labels_len c.label_from-reach.ensures }

@@ -35,7 +35,7 @@ pub label_from-reach-requires : goal.label_from-reach-requires
 label_from-reach-requires c = repairing_next c.loop-j.invariant c.loop-j-test.true
 
 pub overflow_add-relabelled : goal.overflow_add-relabelled
-overflow_add-relabelled c = omega (arith, repairing_few c.loop-j.invariant c.label_from-reach.ensures, (goal.at.overflow_add-relabelled c).Start)
+overflow_add-relabelled c = omega (arith, repairing_few c.loop-j.invariant c.label_from-reach.ensures, c)
 
 pub overflow_add-j : goal.overflow_add-j
 overflow_add-j c = omega (arith, c.loop-j-test.true, counting_row c.loop-j.invariant.given)
@@ -47,16 +47,16 @@ pub loop-j-preserved : goal.loop-j-preserved
 loop-j-preserved c = repairing_turn c.loop-j.invariant c.loop-j-test.true c.label_from-reach.auto.queue c.label_from-reach.ensures
 
 pub restore-requires : goal.restore-requires
-restore-requires c = sowing_restore c.shared_slice_known-5-1.invariant.sowing
+restore-requires c = sowing_restore c.loop-j.invariant.sowing
 
 pub shape_of-colouring : goal.shape_of-colouring
-shape_of-colouring c = c.restore.auto.colouring ∙ c.shared_slice_known-5-1.invariant.sowing.whole.flood.size ∙ sym c.shared_slice_known-5-1.invariant.given.ready.size
+shape_of-colouring c = c.restore.auto.colouring ∙ c.loop-j.invariant.sowing.whole.flood.size ∙ sym c.loop-j.invariant.given.ready.size
 
 pub shape_of-labels : goal.shape_of-labels
-shape_of-labels c = c.shared_slice_known-5-1.invariant.sowing.size ∙ sym loop.before.before.before.before.before.before.before.before.before.requires.1
+shape_of-labels c = c.loop-j.invariant.sowing.size ∙ sym c.requires.labels_len
 
 pub shape_of-queue : goal.shape_of-queue
-shape_of-queue c = c.shared_slice_known-5-1.invariant.length-kept
+shape_of-queue c = c.loop-j.invariant.length-kept
 
 pub returns : goal.returns
-returns c = record { colouring_unchanged = c.restore.ensures ∙ c.shared_slice_known-5-1.invariant.sowing.same; renewed = repairing_end c.shared_slice_known-5-1.invariant c.loop-j.false }
+returns c = record { colouring_unchanged = c.restore.ensures ∙ c.loop-j.invariant.sowing.same; renewed = repairing_end c.loop-j.invariant c.loop-j-test.false }
