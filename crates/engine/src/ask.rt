@@ -34,13 +34,11 @@ pub fn region_violation(
     prices: &[u64],
     region: u64,
 ) -> u64
-    ghost P: { Plan }
-    requires constraints_value { plan_of (length workloads.now) sectors workloads.now outside.now edges.now counts.now visits.now constraints.now ≡ P }
-    requires weights_value { weights ≡ weights_of P.constraints }
-    requires prices_value { prices.now ≡ pricesOf P colouring.now }
-    requires asking { Asking P whole start.now near.now areas.now colouring.now work.now region }
-    requires flown { Flown P timed.now counts.now visits.now visited.now flights.now firsts.now }
-    ensures { result ≡ region_violation P colouring.now region }
+    requires weights_value { let P = plan_of (length workloads.now) sectors workloads.now outside.now edges.now counts.now visits.now constraints.now in weights ≡ weights_of P.constraints }
+    requires prices_value { let P = plan_of (length workloads.now) sectors workloads.now outside.now edges.now counts.now visits.now constraints.now in prices.now ≡ pricesOf P colouring.now }
+    requires asking { let P = plan_of (length workloads.now) sectors workloads.now outside.now edges.now counts.now visits.now constraints.now in Asking P whole start.now near.now areas.now colouring.now work.now region }
+    requires flown { let P = plan_of (length workloads.now) sectors workloads.now outside.now edges.now counts.now visits.now constraints.now in Flown P timed.now counts.now visits.now visited.now flights.now firsts.now }
+    ensures { let P = plan_of (length workloads.now) sectors workloads.now outside.now edges.now counts.now visits.now constraints.now in result ≡ region_violation P colouring.now region }
 {
     let v = region as usize;
     let own = colouring[v - 1];

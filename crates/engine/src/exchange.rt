@@ -53,15 +53,13 @@ fn change_both(
     first: u64,
     second: u64,
 ) -> Change
-    ghost P: { Plan }
-    requires constraints_value { plan_of (length workloads.now) sectors workloads.now outside.now edges.now counts.now visits.now constraints.now ≡ P }
-    requires paid { Paid P colouring.old limited.now prices.now }
-    requires remembered { Remembered P.R P.S P.edges colouring.old clock known.old }
-    requires swapping { Swapping P start.now near.now areas.now colouring.old queue.old first second }
-    requires kept { Kept P colouring.old work.now }
-    requires flown { Flown P timed.now counts.now visits.now visited.now flights.now firsts.now }
-    ensures remembered { Remembered P.R P.S P.edges colouring.old clock known.new }
-    ensures changed { Changed P colouring.old (swap colouring.old first second) (at colouring.old first) (at colouring.old second) result }
+    requires paid { let P = plan_of (length workloads.now) sectors workloads.now outside.now edges.now counts.now visits.now constraints.now in Paid P colouring.old limited.now prices.now }
+    requires remembered { let P = plan_of (length workloads.now) sectors workloads.now outside.now edges.now counts.now visits.now constraints.now in Remembered P.R P.S P.edges colouring.old clock known.old }
+    requires swapping { let P = plan_of (length workloads.now) sectors workloads.now outside.now edges.now counts.now visits.now constraints.now in Swapping P start.now near.now areas.now colouring.old queue.old first second }
+    requires kept { let P = plan_of (length workloads.now) sectors workloads.now outside.now edges.now counts.now visits.now constraints.now in Kept P colouring.old work.now }
+    requires flown { let P = plan_of (length workloads.now) sectors workloads.now outside.now edges.now counts.now visits.now constraints.now in Flown P timed.now counts.now visits.now visited.now flights.now firsts.now }
+    ensures remembered { let P = plan_of (length workloads.now) sectors workloads.now outside.now edges.now counts.now visits.now constraints.now in Remembered P.R P.S P.edges colouring.old clock known.new }
+    ensures changed { let P = plan_of (length workloads.now) sectors workloads.now outside.now edges.now counts.now visits.now constraints.now in Changed P colouring.old (swap colouring.old first second) (at colouring.old first) (at colouring.old second) result }
     ensures colouring_after { colouring.new ≡ colouring.old }
 {
     let z = first as usize - 1;
@@ -148,14 +146,12 @@ pub fn probe(
     first: u64,
     second: u64,
 ) -> u64
-    ghost P: { Plan }
-    requires constraints_value { plan_of (length workloads.now) sectors workloads.now outside.now edges.now counts.now visits.now constraints.now ≡ P }
-    requires sorted { Sorted P shared.now limited.now }
-    requires remembered { Remembered P.R P.S P.edges colouring.old clock known.old }
-    requires exchanging { Exchanging P whole start.now near.now areas.now colouring.old work.now prices.now queue.old standing first second }
-    requires flown { Flown P timed.now counts.now visits.now visited.now flights.now firsts.now }
-    ensures remembered { Remembered P.R P.S P.edges colouring.old clock known.new }
-    ensures r_value { result ≡ total P (swap colouring.old first second) }
+    requires sorted { let P = plan_of (length workloads.now) sectors workloads.now outside.now edges.now counts.now visits.now constraints.now in Sorted P shared.now limited.now }
+    requires remembered { let P = plan_of (length workloads.now) sectors workloads.now outside.now edges.now counts.now visits.now constraints.now in Remembered P.R P.S P.edges colouring.old clock known.old }
+    requires exchanging { let P = plan_of (length workloads.now) sectors workloads.now outside.now edges.now counts.now visits.now constraints.now in Exchanging P whole start.now near.now areas.now colouring.old work.now prices.now queue.old standing first second }
+    requires flown { let P = plan_of (length workloads.now) sectors workloads.now outside.now edges.now counts.now visits.now constraints.now in Flown P timed.now counts.now visits.now visited.now flights.now firsts.now }
+    ensures remembered { let P = plan_of (length workloads.now) sectors workloads.now outside.now edges.now counts.now visits.now constraints.now in Remembered P.R P.S P.edges colouring.old clock known.new }
+    ensures r_value { let P = plan_of (length workloads.now) sectors workloads.now outside.now edges.now counts.now visits.now constraints.now in result ≡ total P (swap colouring.old first second) }
     ensures colouring_after { colouring.new ≡ colouring.old }
 {
     let own = colouring[first as usize - 1];
@@ -226,14 +222,12 @@ fn turn_both(
     first: u64,
     second: u64,
 ) -> Turned
-    ghost P: { Plan }
-    requires constraints_value { plan_of (length workloads.now) sectors workloads.now outside.now edges.now counts.now visits.now constraints.now ≡ P }
-    requires limited_value { constraints_of limited.now ≡ limitedOf P.constraints }
-    requires swapping { Swapping P start.now near.now areas.now colouring.old queue.old first second }
-    requires before_value { before ≡ sides_of P colouring.old (at colouring.old first) (at colouring.old second) }
-    requires labels_value { labels.old ≡ labelsOf P.edges colouring.old }
-    requires flown { Flown P timed.now counts.now visits.now visited.now flights.now firsts.now }
-    ensures { Followed P colouring.old (swap colouring.old first second) (at colouring.old first) (at colouring.old second) colouring.new labels.new result }
+    requires limited_value { let P = plan_of (length workloads.now) sectors workloads.now outside.now edges.now counts.now visits.now constraints.now in constraints_of limited.now ≡ limitedOf P.constraints }
+    requires swapping { let P = plan_of (length workloads.now) sectors workloads.now outside.now edges.now counts.now visits.now constraints.now in Swapping P start.now near.now areas.now colouring.old queue.old first second }
+    requires before_value { let P = plan_of (length workloads.now) sectors workloads.now outside.now edges.now counts.now visits.now constraints.now in before ≡ sides_of P colouring.old (at colouring.old first) (at colouring.old second) }
+    requires labels_value { let P = plan_of (length workloads.now) sectors workloads.now outside.now edges.now counts.now visits.now constraints.now in labels.old ≡ labelsOf P.edges colouring.old }
+    requires flown { let P = plan_of (length workloads.now) sectors workloads.now outside.now edges.now counts.now visits.now constraints.now in Flown P timed.now counts.now visits.now visited.now flights.now firsts.now }
+    ensures { let P = plan_of (length workloads.now) sectors workloads.now outside.now edges.now counts.now visits.now constraints.now in Followed P colouring.old (swap colouring.old first second) (at colouring.old first) (at colouring.old second) colouring.new labels.new result }
 {
     let regions = workloads.len();
     let from = colouring[first as usize - 1];
@@ -317,12 +311,10 @@ pub fn make(
     first: u64,
     second: u64,
 ) -> Made
-    ghost P: { Plan }
-    requires constraints_value { plan_of (length workloads.now) sectors workloads.now outside.now edges.now counts.now visits.now constraints.now ≡ P }
-    requires sorted { Sorted P shared.now limited.now }
-    requires exchanging { Exchanging P whole start.now near.now areas.now colouring.old work.old prices.old queue.old standing first second }
-    requires flown { Flown P timed.now counts.now visits.now visited.now flights.now firsts.now }
-    ensures { Remade P colouring.old work.old (swap colouring.old first second) colouring.new work.new prices.new result }
+    requires sorted { let P = plan_of (length workloads.now) sectors workloads.now outside.now edges.now counts.now visits.now constraints.now in Sorted P shared.now limited.now }
+    requires exchanging { let P = plan_of (length workloads.now) sectors workloads.now outside.now edges.now counts.now visits.now constraints.now in Exchanging P whole start.now near.now areas.now colouring.old work.old prices.old queue.old standing first second }
+    requires flown { let P = plan_of (length workloads.now) sectors workloads.now outside.now edges.now counts.now visits.now constraints.now in Flown P timed.now counts.now visits.now visited.now flights.now firsts.now }
+    ensures { let P = plan_of (length workloads.now) sectors workloads.now outside.now edges.now counts.now visits.now constraints.now in Remade P colouring.old work.old (swap colouring.old first second) colouring.new work.new prices.new result }
 {
     let from = colouring[first as usize - 1];
     let to = colouring[second as usize - 1];

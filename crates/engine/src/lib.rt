@@ -82,17 +82,15 @@ pub fn step(
     standing: Standing,
     asked: Move,
 ) -> Stepped
-    ghost P: { Plan }
-    requires constraints_value { plan_of (length workloads.now) sectors workloads.now outside.now edges.now counts.now visits.now constraints.now ≡ P }
-    requires sorted { Sorted P shared.now limited.now × (weights ≡ weights_of P.constraints) }
-    requires remembered { Remembered P.R P.S P.edges colouring.old clock known.old }
+    requires sorted { let P = plan_of (length workloads.now) sectors workloads.now outside.now edges.now counts.now visits.now constraints.now in Sorted P shared.now limited.now × (weights ≡ weights_of P.constraints) }
+    requires remembered { let P = plan_of (length workloads.now) sectors workloads.now outside.now edges.now counts.now visits.now constraints.now in Remembered P.R P.S P.edges colouring.old clock known.old }
     requires clock_bound { clock < most_moves }
-    requires setting { Setting P whole start.now near.now areas.now queue.old }
-    requires ready { Ready P colouring.old work.old prices.old standing }
-    requires within { Within P asked }
-    requires flown { Flown P timed.now counts.now visits.now visited.now flights.now firsts.now }
-    ensures remembered { Remembered P.R P.S P.edges (next colouring.old asked) (clock + 1) known.new }
-    ensures answered { Answered P colouring.old work.old asked colouring.new work.new prices.new result }
+    requires setting { let P = plan_of (length workloads.now) sectors workloads.now outside.now edges.now counts.now visits.now constraints.now in Setting P whole start.now near.now areas.now queue.old }
+    requires ready { let P = plan_of (length workloads.now) sectors workloads.now outside.now edges.now counts.now visits.now constraints.now in Ready P colouring.old work.old prices.old standing }
+    requires within { let P = plan_of (length workloads.now) sectors workloads.now outside.now edges.now counts.now visits.now constraints.now in Within P asked }
+    requires flown { let P = plan_of (length workloads.now) sectors workloads.now outside.now edges.now counts.now visits.now constraints.now in Flown P timed.now counts.now visits.now visited.now flights.now firsts.now }
+    ensures remembered { let P = plan_of (length workloads.now) sectors workloads.now outside.now edges.now counts.now visits.now constraints.now in Remembered P.R P.S P.edges (next colouring.old asked) (clock + 1) known.new }
+    ensures answered { let P = plan_of (length workloads.now) sectors workloads.now outside.now edges.now counts.now visits.now constraints.now in Answered P colouring.old work.old asked colouring.new work.new prices.new result }
 {
     let before = standing.total;
     match asked {
@@ -307,13 +305,11 @@ pub fn begin(
     prices: &mut [u64],
     queue: &mut [u64],
 ) -> Standing
-    ghost P: { Plan }
-    requires constraints_value { plan_of (length workloads.now) sectors workloads.now outside.now edges.now counts.now visits.now constraints.now ≡ P }
-    requires sorted { Sorted P shared.now limited.now }
-    requires setting { Setting P whole start.now near.now areas.now queue.old }
-    requires opening { Opening P colouring.old work.old prices.old }
-    requires priced { Priced P timed.now counts.now visits.now }
-    ensures { Opened P colouring.old work.old colouring.new work.new prices.new result }
+    requires sorted { let P = plan_of (length workloads.now) sectors workloads.now outside.now edges.now counts.now visits.now constraints.now in Sorted P shared.now limited.now }
+    requires setting { let P = plan_of (length workloads.now) sectors workloads.now outside.now edges.now counts.now visits.now constraints.now in Setting P whole start.now near.now areas.now queue.old }
+    requires opening { let P = plan_of (length workloads.now) sectors workloads.now outside.now edges.now counts.now visits.now constraints.now in Opening P colouring.old work.old prices.old }
+    requires priced { let P = plan_of (length workloads.now) sectors workloads.now outside.now edges.now counts.now visits.now constraints.now in Priced P timed.now counts.now visits.now }
+    ensures { let P = plan_of (length workloads.now) sectors workloads.now outside.now edges.now counts.now visits.now constraints.now in Opened P colouring.old work.old colouring.new work.new prices.new result }
 {
     memory::lay_out(
         sectors,

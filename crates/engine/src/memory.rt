@@ -101,11 +101,9 @@ pub fn lay_out(
     work: &mut [u64],
     queue: &mut [u64],
 )
-    ghost P: { Plan }
-    requires constraints_value { plan_of (length workloads.now) sectors workloads.now outside.now edges.now counts.now visits.now constraints.now ≡ P }
-    requires blank { Blank P start.now near.now colouring.old work.old queue.old }
+    requires { let P = plan_of (length workloads.now) sectors workloads.now outside.now edges.now counts.now visits.now constraints.now in Blank P start.now near.now colouring.old work.old queue.old }
     ensures colouring_after { colouring.new ≡ colouring.old }
-    ensures work_after { work.new ≡ memory P colouring.old ++ drop (memory_length P) work.old }
+    ensures work_after { let P = plan_of (length workloads.now) sectors workloads.now outside.now edges.now counts.now visits.now constraints.now in work.new ≡ memory P colouring.old ++ drop (memory_length P) work.old }
 {
     let regions = workloads.len();
     let counts_end = regions + sectors as usize;

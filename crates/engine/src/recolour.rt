@@ -45,14 +45,12 @@ pub fn probe(
     region: u64,
     sector: u64,
 ) -> u64
-    ghost P: { Plan }
-    requires constraints_value { plan_of (length workloads.now) sectors workloads.now outside.now edges.now counts.now visits.now constraints.now ≡ P }
-    requires sorted { Sorted P shared.now limited.now }
-    requires remembered { Remembered P.R P.S P.edges colouring.old clock known.old }
-    requires recolouring { Recolouring P whole start.now near.now areas.now colouring.old work.now prices.now queue.old standing region sector }
-    requires flown { Flown P timed.now counts.now visits.now visited.now flights.now firsts.now }
-    ensures remembered { Remembered P.R P.S P.edges colouring.old clock known.new }
-    ensures r_value { result ≡ total P (recolour colouring.old region sector) }
+    requires sorted { let P = plan_of (length workloads.now) sectors workloads.now outside.now edges.now counts.now visits.now constraints.now in Sorted P shared.now limited.now }
+    requires remembered { let P = plan_of (length workloads.now) sectors workloads.now outside.now edges.now counts.now visits.now constraints.now in Remembered P.R P.S P.edges colouring.old clock known.old }
+    requires recolouring { let P = plan_of (length workloads.now) sectors workloads.now outside.now edges.now counts.now visits.now constraints.now in Recolouring P whole start.now near.now areas.now colouring.old work.now prices.now queue.old standing region sector }
+    requires flown { let P = plan_of (length workloads.now) sectors workloads.now outside.now edges.now counts.now visits.now constraints.now in Flown P timed.now counts.now visits.now visited.now flights.now firsts.now }
+    ensures remembered { let P = plan_of (length workloads.now) sectors workloads.now outside.now edges.now counts.now visits.now constraints.now in Remembered P.R P.S P.edges colouring.old clock known.new }
+    ensures r_value { let P = plan_of (length workloads.now) sectors workloads.now outside.now edges.now counts.now visits.now constraints.now in result ≡ total P (recolour colouring.old region sector) }
     ensures colouring_after { colouring.new ≡ colouring.old }
 {
     let own = colouring[region as usize - 1];
@@ -115,12 +113,10 @@ pub fn make(
     region: u64,
     sector: u64,
 ) -> Made
-    ghost P: { Plan }
-    requires constraints_value { plan_of (length workloads.now) sectors workloads.now outside.now edges.now counts.now visits.now constraints.now ≡ P }
-    requires sorted { Sorted P shared.now limited.now }
-    requires recolouring { Recolouring P whole start.now near.now areas.now colouring.old work.old prices.old queue.old standing region sector }
-    requires flown { Flown P timed.now counts.now visits.now visited.now flights.now firsts.now }
-    ensures { Remade P colouring.old work.old (recolour colouring.old region sector) colouring.new work.new prices.new result }
+    requires sorted { let P = plan_of (length workloads.now) sectors workloads.now outside.now edges.now counts.now visits.now constraints.now in Sorted P shared.now limited.now }
+    requires recolouring { let P = plan_of (length workloads.now) sectors workloads.now outside.now edges.now counts.now visits.now constraints.now in Recolouring P whole start.now near.now areas.now colouring.old work.old prices.old queue.old standing region sector }
+    requires flown { let P = plan_of (length workloads.now) sectors workloads.now outside.now edges.now counts.now visits.now constraints.now in Flown P timed.now counts.now visits.now visited.now flights.now firsts.now }
+    ensures { let P = plan_of (length workloads.now) sectors workloads.now outside.now edges.now counts.now visits.now constraints.now in Remade P colouring.old work.old (recolour colouring.old region sector) colouring.new work.new prices.new result }
 {
     let own = colouring[region as usize - 1];
     if own == sector {

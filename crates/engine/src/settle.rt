@@ -30,12 +30,10 @@ pub fn settle(
     sector: u64,
     change: Change,
 ) -> Standing
-    ghost P: { Plan }
-    requires constraints_value { plan_of (length workloads.now) sectors workloads.now outside.now edges.now counts.now visits.now constraints.now ≡ P }
-    requires shared_value { constraints_of shared.now ≡ sharedOf P.constraints }
-    requires settling { Settling P whole colouring.now work.old prices.old standing own sector change }
-    ensures left { Left P work.old colouring.now colouring.now work.new prices.new }
-    ensures r_value { result ≡ standing_of P colouring.now }
+    requires shared_value { let P = plan_of (length workloads.now) sectors workloads.now outside.now edges.now counts.now visits.now constraints.now in constraints_of shared.now ≡ sharedOf P.constraints }
+    requires settling { let P = plan_of (length workloads.now) sectors workloads.now outside.now edges.now counts.now visits.now constraints.now in Settling P whole colouring.now work.old prices.old standing own sector change }
+    ensures left { let P = plan_of (length workloads.now) sectors workloads.now outside.now edges.now counts.now visits.now constraints.now in Left P work.old colouring.now colouring.now work.new prices.new }
+    ensures r_value { let P = plan_of (length workloads.now) sectors workloads.now outside.now edges.now counts.now visits.now constraints.now in result ≡ standing_of P colouring.now }
 {
     let figures = figures_after(sectors, whole, standing.figures, change);
     let after = total(shared, figures);

@@ -118,15 +118,13 @@ pub fn change_at(
     region: u64,
     sector: u64,
 ) -> Change
-    ghost P: { Plan }
-    requires constraints_value { plan_of (length workloads.now) sectors workloads.now outside.now edges.now counts.now visits.now constraints.now ≡ P }
-    requires paid { Paid P colouring.old limited.now prices.now }
-    requires remembered { Remembered P.R P.S P.edges colouring.old clock known.old }
-    requires turning { Turning P start.now near.now areas.now colouring.old queue.old region sector }
-    requires kept { Kept P colouring.old work.now }
-    requires flown { Flown P timed.now counts.now visits.now visited.now flights.now firsts.now }
-    ensures remembered { Remembered P.R P.S P.edges colouring.old clock known.new }
-    ensures turns { Turns P colouring.old region sector result }
+    requires paid { let P = plan_of (length workloads.now) sectors workloads.now outside.now edges.now counts.now visits.now constraints.now in Paid P colouring.old limited.now prices.now }
+    requires remembered { let P = plan_of (length workloads.now) sectors workloads.now outside.now edges.now counts.now visits.now constraints.now in Remembered P.R P.S P.edges colouring.old clock known.old }
+    requires turning { let P = plan_of (length workloads.now) sectors workloads.now outside.now edges.now counts.now visits.now constraints.now in Turning P start.now near.now areas.now colouring.old queue.old region sector }
+    requires kept { let P = plan_of (length workloads.now) sectors workloads.now outside.now edges.now counts.now visits.now constraints.now in Kept P colouring.old work.now }
+    requires flown { let P = plan_of (length workloads.now) sectors workloads.now outside.now edges.now counts.now visits.now constraints.now in Flown P timed.now counts.now visits.now visited.now flights.now firsts.now }
+    ensures remembered { let P = plan_of (length workloads.now) sectors workloads.now outside.now edges.now counts.now visits.now constraints.now in Remembered P.R P.S P.edges colouring.old clock known.new }
+    ensures turns { let P = plan_of (length workloads.now) sectors workloads.now outside.now edges.now counts.now visits.now constraints.now in Turns P colouring.old region sector result }
     ensures colouring_after { colouring.new ≡ colouring.old }
 {
     let regions = workloads.len();
@@ -177,13 +175,11 @@ pub fn change_anew(
     region: u64,
     sector: u64,
 ) -> Change
-    ghost P: { Plan }
-    requires constraints_value { plan_of (length workloads.now) sectors workloads.now outside.now edges.now counts.now visits.now constraints.now ≡ P }
-    requires limited_value { constraints_of limited.now ≡ limitedOf P.constraints }
-    requires turning { Turning P start.now near.now areas.now colouring.old queue.old region sector }
-    requires before_value { before ≡ sides_of P colouring.old (at colouring.old region) sector }
-    requires flown { Flown P timed.now counts.now visits.now visited.now flights.now firsts.now }
-    ensures turns { Turns P colouring.old region sector result }
+    requires limited_value { let P = plan_of (length workloads.now) sectors workloads.now outside.now edges.now counts.now visits.now constraints.now in constraints_of limited.now ≡ limitedOf P.constraints }
+    requires turning { let P = plan_of (length workloads.now) sectors workloads.now outside.now edges.now counts.now visits.now constraints.now in Turning P start.now near.now areas.now colouring.old queue.old region sector }
+    requires before_value { let P = plan_of (length workloads.now) sectors workloads.now outside.now edges.now counts.now visits.now constraints.now in before ≡ sides_of P colouring.old (at colouring.old region) sector }
+    requires flown { let P = plan_of (length workloads.now) sectors workloads.now outside.now edges.now counts.now visits.now constraints.now in Flown P timed.now counts.now visits.now visited.now flights.now firsts.now }
+    ensures turns { let P = plan_of (length workloads.now) sectors workloads.now outside.now edges.now counts.now visits.now constraints.now in Turns P colouring.old region sector result }
     ensures colouring_after { colouring.new ≡ colouring.old }
 {
     let v = region as usize;
@@ -227,14 +223,12 @@ pub fn turn(
     region: u64,
     sector: u64,
 ) -> Turned
-    ghost P: { Plan }
-    requires constraints_value { plan_of (length workloads.now) sectors workloads.now outside.now edges.now counts.now visits.now constraints.now ≡ P }
-    requires limited_value { constraints_of limited.now ≡ limitedOf P.constraints }
-    requires turning { Turning P start.now near.now areas.now colouring.old queue.old region sector }
-    requires before_value { before ≡ sides_of P colouring.old (at colouring.old region) sector }
-    requires labels_value { labels.old ≡ labelsOf P.edges colouring.old }
-    requires flown { Flown P timed.now counts.now visits.now visited.now flights.now firsts.now }
-    ensures followed { Followed P colouring.old (recolour colouring.old region sector) (at colouring.old region) sector colouring.new labels.new result }
+    requires limited_value { let P = plan_of (length workloads.now) sectors workloads.now outside.now edges.now counts.now visits.now constraints.now in constraints_of limited.now ≡ limitedOf P.constraints }
+    requires turning { let P = plan_of (length workloads.now) sectors workloads.now outside.now edges.now counts.now visits.now constraints.now in Turning P start.now near.now areas.now colouring.old queue.old region sector }
+    requires before_value { let P = plan_of (length workloads.now) sectors workloads.now outside.now edges.now counts.now visits.now constraints.now in before ≡ sides_of P colouring.old (at colouring.old region) sector }
+    requires labels_value { let P = plan_of (length workloads.now) sectors workloads.now outside.now edges.now counts.now visits.now constraints.now in labels.old ≡ labelsOf P.edges colouring.old }
+    requires flown { let P = plan_of (length workloads.now) sectors workloads.now outside.now edges.now counts.now visits.now constraints.now in Flown P timed.now counts.now visits.now visited.now flights.now firsts.now }
+    ensures followed { let P = plan_of (length workloads.now) sectors workloads.now outside.now edges.now counts.now visits.now constraints.now in Followed P colouring.old (recolour colouring.old region sector) (at colouring.old region) sector colouring.new labels.new result }
     ensures single { Single result.change }
 {
     let v = region as usize;

@@ -71,19 +71,17 @@ fn turn(
     rows: &mut [i64],
     standing: Standing,
 ) -> Standing
-    ghost P: { Plan }
-    requires constraints_value { plan_of (length workloads.now) sectors workloads.now outside.now edges.now counts.now visits.now constraints.now ≡ P }
-    requires sorted { Sorted P shared.now limited.now × (weights ≡ weights_of P.constraints) }
-    requires remembered { Remembered P.R P.S P.edges colouring.old k known.old }
+    requires sorted { let P = plan_of (length workloads.now) sectors workloads.now outside.now edges.now counts.now visits.now constraints.now in Sorted P shared.now limited.now × (weights ≡ weights_of P.constraints) }
+    requires remembered { let P = plan_of (length workloads.now) sectors workloads.now outside.now edges.now counts.now visits.now constraints.now in Remembered P.R P.S P.edges colouring.old k known.old }
     requires k_bound { k < most_moves }
-    requires setting { Setting P whole start.now near.now areas.now queue.old }
-    requires ready { Ready P colouring.old work.old prices.old standing }
+    requires setting { let P = plan_of (length workloads.now) sectors workloads.now outside.now edges.now counts.now visits.now constraints.now in Setting P whole start.now near.now areas.now queue.old }
+    requires ready { let P = plan_of (length workloads.now) sectors workloads.now outside.now edges.now counts.now visits.now constraints.now in Ready P colouring.old work.old prices.old standing }
     requires move_length_in_bounds { move_length * k + move_length ≤ length moves.now }
     requires row_length_in_bounds { row_length * k + row_length ≤ length rows.old }
-    requires flown { Flown P timed.now counts.now visits.now visited.now flights.now firsts.now }
-    ensures remembered { Remembered P.R P.S P.edges (next colouring.old (move_at P moves.now k)) (k + 1) known.new }
-    ensures opened { Opened P (next colouring.old (move_at P moves.now k)) work.old colouring.new work.new prices.new result }
-    ensures rows_after { rows.new ≡ sets rows.old (row_length * k) (cells (row P colouring.old (move_at P moves.now k))) }
+    requires flown { let P = plan_of (length workloads.now) sectors workloads.now outside.now edges.now counts.now visits.now constraints.now in Flown P timed.now counts.now visits.now visited.now flights.now firsts.now }
+    ensures remembered { let P = plan_of (length workloads.now) sectors workloads.now outside.now edges.now counts.now visits.now constraints.now in Remembered P.R P.S P.edges (next colouring.old (move_at P moves.now k)) (k + 1) known.new }
+    ensures opened { let P = plan_of (length workloads.now) sectors workloads.now outside.now edges.now counts.now visits.now constraints.now in Opened P (next colouring.old (move_at P moves.now k)) work.old colouring.new work.new prices.new result }
+    ensures rows_after { let P = plan_of (length workloads.now) sectors workloads.now outside.now edges.now counts.now visits.now constraints.now in rows.new ≡ sets rows.old (row_length * k) (cells (row P colouring.old (move_at P moves.now k))) }
 {
     let at = MOVE_LENGTH * k;
     let asked = Move::new(
@@ -160,16 +158,14 @@ pub fn all_moves(
     rows: &mut [i64],
     first: Standing,
 ) -> Standing
-    ghost P: { Plan }
-    requires constraints_value { plan_of (length workloads.now) sectors workloads.now outside.now edges.now counts.now visits.now constraints.now ≡ P }
-    requires sorted { Sorted P shared.now limited.now }
+    requires sorted { let P = plan_of (length workloads.now) sectors workloads.now outside.now edges.now counts.now visits.now constraints.now in Sorted P shared.now limited.now }
     requires move_length_bound { length moves.now / move_length ≤ most_moves }
-    requires setting { Setting P whole start.now near.now areas.now queue.old }
-    requires ready { Ready P colouring.old work.old prices.old first }
+    requires setting { let P = plan_of (length workloads.now) sectors workloads.now outside.now edges.now counts.now visits.now constraints.now in Setting P whole start.now near.now areas.now queue.old }
+    requires ready { let P = plan_of (length workloads.now) sectors workloads.now outside.now edges.now counts.now visits.now constraints.now in Ready P colouring.old work.old prices.old first }
     requires move_length_in_bounds { row_length * (length moves.now / move_length) ≤ length rows.old }
-    requires flown { Flown P timed.now counts.now visits.now visited.now flights.now firsts.now }
-    ensures opened { Opened P (last colouring.old (moves_of P moves.now)) work.old colouring.new work.new prices.new result }
-    ensures rows_after { rows.new ≡ meaning.rows P colouring.old (moves_of P moves.now) ++ drop (row_length * (length moves.now / move_length)) rows.old }
+    requires flown { let P = plan_of (length workloads.now) sectors workloads.now outside.now edges.now counts.now visits.now constraints.now in Flown P timed.now counts.now visits.now visited.now flights.now firsts.now }
+    ensures opened { let P = plan_of (length workloads.now) sectors workloads.now outside.now edges.now counts.now visits.now constraints.now in Opened P (last colouring.old (moves_of P moves.now)) work.old colouring.new work.new prices.new result }
+    ensures rows_after { let P = plan_of (length workloads.now) sectors workloads.now outside.now edges.now counts.now visits.now constraints.now in rows.new ≡ meaning.rows P colouring.old (moves_of P moves.now) ++ drop (row_length * (length moves.now / move_length)) rows.old }
 {
     let n = moves.len() / MOVE_LENGTH;
     if n == 0 {

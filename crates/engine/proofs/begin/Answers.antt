@@ -14,7 +14,7 @@ pub overflow_add-loads_end : goal.overflow_add-loads_end
 overflow_add-loads_end c = omega (arith, c.requires.setting.limits)
 
 pub border_of-border-requires : goal.border_of-border-requires
-border_of-border-requires c = let r = opening_faces c.requires.setting c.requires.opening c.lay_out-arg-3-1.ensures.0 in record { few = r.0; small_edges = r.1 }
+border_of-border-requires c = let r = opening_faces c.requires.setting c.requires.opening c.lay_out.ensures.colouring_after in record { few = r.0; small_edges = r.1 }
 
 pub price_all-dwell-requires : goal.price_all-dwell-requires
 price_all-dwell-requires c = record { paying = c.requires.priced.timing; flying = priced_flying c.requires.opening.coloured c.requires.priced c.lay_out.ensures.colouring_after }
@@ -29,7 +29,7 @@ pub price_all-requires : goal.price_all-requires
 price_all-requires c = let r = opening_paying c.requires.setting c.requires.opening c.lay_out.ensures.work_after c.requires.sorted in record { paying = r.0; few = r.1.0; prices_len = r.1.1 }
 
 pub sum_of-bounded-requires : goal.sum_of-bounded-requires
-sum_of-bounded-requires c = opening_room c.requires.setting c.requires.opening c.lay_out.ensures.work_after c.requires.sorted c.price_all-arg-2-1.ensures
+sum_of-bounded-requires c = opening_room c.requires.setting c.requires.opening c.lay_out.ensures.work_after c.requires.sorted c.price_all.ensures
 
 pub offset_bounds-work-regions : goal.offset_bounds-work-regions
 offset_bounds-work-regions c = omega (arith, c.requires.setting.limits)
@@ -48,10 +48,10 @@ figures_of-figures-requires c = opening_tallies c.requires.setting c.requires.op
 
 pub total-total-requires : goal.total-total-requires
 total-total-requires c =
-    let r = opening_small c.requires.setting c.requires.opening c.lay_out.ensures.work_after c.requires.sorted c.price_all.ensures c.lay_out.ensures.colouring_after c.border_of-border.ensures c.slice_known-8-1.ensures
-    (priced_total c.requires.priced _ c.border_of-border.ensures) c.figures_of-figures.ensures in record { small_figures = r.0; paying = r.1 }
+    let r = opening_small c.requires.setting c.requires.opening c.lay_out.ensures.work_after c.requires.sorted c.price_all.ensures c.lay_out.ensures.colouring_after c.border_of-border.ensures c.sum_of-bounded.ensures
+    (priced_total c.requires.priced _ c.price_all-dwell.ensures) c.figures_of-figures.ensures in record { small_figures = r.0; paying = r.1 }
 
 pub returns : goal.returns
 returns c =
-    opening_opened c.requires.setting c.requires.opening c.lay_out.ensures.work_after c.requires.sorted c.price_all.ensures c.lay_out.ensures.colouring_after c.border_of-border.ensures c.slice_known-8-1.ensures
-    (priced_total c.requires.priced _ c.border_of-border.ensures) c.figures_of-figures.ensures c.total-total.ensures
+    opening_opened c.requires.setting c.requires.opening c.lay_out.ensures.work_after c.requires.sorted c.price_all.ensures c.lay_out.ensures.colouring_after c.border_of-border.ensures c.sum_of-bounded.ensures
+    (priced_total c.requires.priced _ c.price_all-dwell.ensures) c.figures_of-figures.ensures c.total-total.ensures

@@ -24,15 +24,15 @@ bounds-colouring-region c =
 pub make-made-requires : goal.make-made-requires
 make-made-requires c =
     let k = recolour_finds c.requires.setting c.requires.ready c.requires.within c.in-Recolour.is in
-    (c.requires.sorted.0, (k, c.requires.flown))
+    record { sorted = c.requires.sorted.0; recolouring = k; flown = c.requires.flown }
 
 pub overflow_add-clock : goal.overflow_add-clock
-overflow_add-clock c = omega (arith, c.requires.clock_bound)
+overflow_add-clock c = record { fits = omega (arith, c.requires.clock_bound) }
 
 pub raise-requires : goal.raise-requires
 raise-requires c =
     let k = recolour_finds c.requires.setting c.requires.ready c.requires.within c.in-Recolour.is in
-record { raisable = remembered_raisable c.requires.remembered (k.ready.coloured.sector _ k.region); raisable_2 = remembered_raisable c.requires.remembered k.sector }
+    record { raisable = remembered_raisable c.requires.remembered (k.ready.coloured.sector _ k.region); raisable_2 = remembered_raisable c.requires.remembered k.sector }
 
 pub delta-requires : goal.delta-requires
 delta-requires c = made_small c.requires.setting c.requires.ready (recolour_tries c.in-Recolour.is) c.make-made.ensures
@@ -42,8 +42,8 @@ returns-then-make c = record { remembered = remembered_recolour (recolour_finds 
 
 pub probe-total-requires : goal.probe-total-requires
 probe-total-requires c =
-    let k = recolour_finds c.requires.setting c.requires.ready c.requires.within c.slice_known-5-1.given.1 in
-    (c.requires.sorted.0, (c.requires.remembered, (k, c.requires.flown)))
+    let k = recolour_finds c.requires.setting c.requires.ready c.requires.within c.in-Recolour.is in
+    record { sorted = c.requires.sorted.0; remembered = c.requires.remembered; recolouring = k; flown = c.requires.flown }
 
 pub delta-requires-in-Recolour : goal.delta-requires-in-Recolour
 delta-requires-in-Recolour c = probed_small c.requires.setting c.requires.ready (recolour_tries c.in-Recolour.is) c.probe-total.ensures.r_value
@@ -84,15 +84,15 @@ bounds-colouring-second c =
 pub make-made-requires-then-make-2 : goal.make-made-requires-then-make-2
 make-made-requires-then-make-2 c =
     let k = exchange_finds c.requires.setting c.requires.ready c.requires.within c.in-Exchange.is in
-    (c.requires.sorted.0, (k, c.requires.flown))
+    record { sorted = c.requires.sorted.0; exchanging = k; flown = c.requires.flown }
 
 pub overflow_add-clock-then-make-2 : goal.overflow_add-clock-then-make-2
-overflow_add-clock-then-make-2 c = omega (arith, c.requires.clock_bound)
+overflow_add-clock-then-make-2 c = record { fits = omega (arith, c.requires.clock_bound) }
 
 pub raise-requires-then-make-2 : goal.raise-requires-then-make-2
 raise-requires-then-make-2 c =
     let k = exchange_finds c.requires.setting c.requires.ready c.requires.within c.in-Exchange.is in
-record { raisable = remembered_raisable c.requires.remembered (k.ready.coloured.sector _ k.first); raisable_2 = remembered_raisable c.requires.remembered (k.ready.coloured.sector _ k.second) }
+    record { raisable = remembered_raisable c.requires.remembered (k.ready.coloured.sector _ k.first); raisable_2 = remembered_raisable c.requires.remembered (k.ready.coloured.sector _ k.second) }
 
 pub delta-requires-then-make-2 : goal.delta-requires-then-make-2
 delta-requires-then-make-2 c = made_small c.requires.setting c.requires.ready (exchange_tries c.in-Exchange.is) c.make-made-then-make-2.ensures
@@ -102,8 +102,8 @@ returns-then-make-2 c = record { remembered = remembered_exchange (exchange_find
 
 pub probe-total-requires-in-Exchange : goal.probe-total-requires-in-Exchange
 probe-total-requires-in-Exchange c =
-    let k = exchange_finds c.requires.setting c.requires.ready c.requires.within c.slice_known-5-1.given.1 in
-    (c.requires.sorted.0, (c.requires.remembered, (k, c.requires.flown)))
+    let k = exchange_finds c.requires.setting c.requires.ready c.requires.within c.in-Exchange.is in
+    record { sorted = c.requires.sorted.0; remembered = c.requires.remembered; exchanging = k; flown = c.requires.flown }
 
 pub delta-requires-in-Exchange : goal.delta-requires-in-Exchange
 delta-requires-in-Exchange c = probed_small c.requires.setting c.requires.ready (exchange_tries c.in-Exchange.is) c.probe-total-in-Exchange.ensures.r_value
@@ -113,14 +113,14 @@ returns-in-Exchange c = record { remembered = remembered_exchange_probed c.probe
 
 pub region_violation-violation-requires : goal.region_violation-violation-requires
 region_violation-violation-requires c =
-    let k = ask_finds c.requires.setting c.requires.ready c.requires.within c.slice_known-4-1.given.1 in
-    (c.requires.sorted.1, (c.requires.ready.prices, (k, c.requires.flown)))
+    let k = ask_finds c.requires.setting c.requires.ready c.requires.within c.in-Ask.is in
+    record { weights_value = c.requires.sorted.1; prices_value = c.requires.ready.prices; asking = k; flown = c.requires.flown }
 
 pub delta-requires-in-Ask : goal.delta-requires-in-Ask
-delta-requires-in-Ask c = asked_small c.requires.setting c.requires.ready c.slice_known-4-1.given.1 c.region_violation-violation.ensures
+delta-requires-in-Ask c = asked_small c.requires.setting c.requires.ready c.in-Ask.is c.region_violation-violation.ensures
 
 pub returns-in-Ask : goal.returns-in-Ask
-returns-in-Ask c = record { remembered = remembered_ask c.requires.remembered c.requires.clock_bound c.slice_known-4-1.given.1; answered = asked-answered c.requires.setting c.requires.ready c.slice_known-4-1.given.1 c.region_violation-violation.ensures c.delta-in-Ask.ensures }
+returns-in-Ask c = record { remembered = remembered_ask c.requires.remembered c.requires.clock_bound c.in-Ask.is; answered = asked-answered c.requires.setting c.requires.ready c.in-Ask.is c.region_violation-violation.ensures c.delta-in-Ask.ensures }
 
 pub returns-in-Refused : goal.returns-in-Refused
 returns-in-Refused c = record { remembered = remembered_refused c.requires.remembered c.requires.clock_bound c.in-Refused.is; answered = refused-answered c.requires.setting c.requires.ready c.in-Refused.is }

@@ -8,8 +8,8 @@ use Rattle.holding.proofs.fault_between.Goals as goal
 
 pub first_fault-requires : goal.first_fault-requires
 unfolding layouts
-first_fault-requires c = record { letters_len = rw c.sizes_of-sizes.ensures (four_letters c.shared_slice_known-1.form); sections = listed c.shared_slice_known-1.form c.shared_slice_known-1.head c.bytes_of-bytes.ensures c.letters-1.ensures c.shared_slice_known-1.0.limits; to_in_bounds = rw (listed_dues c.shared_slice_known-1.form c.shared_slice_known-1.head c.bytes_of-bytes.ensures c.letters-1.ensures) (c.shared_slice_known-1.1, omega (arith, c.shared_slice_known-1.1, c.shared_slice_known-1.0.long)) }
+first_fault-requires c = record { letters_len = rw c.letters-letters.ensures (four_letters c.args.form); sections = listed c.args.form c.args.head c.sizes_of-sizes.ensures c.bytes_of-bytes.ensures c.requires.0.limits; to_in_bounds = rw (listed_dues c.args.form c.args.head c.sizes_of-sizes.ensures c.bytes_of-bytes.ensures) (c.requires.1, omega (arith, c.requires.1, c.requires.0.long)) }
 
 pub returns : goal.returns
 unfolding layouts
-returns c = c.first_fault.ensures ∙ rw (c.sizes_of-sizes.ensures, listed_dues c.shared_slice_known-1.form c.shared_slice_known-1.head c.bytes_of-bytes.ensures c.letters-1.ensures)
+returns c = c.first_fault.ensures ∙ rw (c.letters-letters.ensures, listed_dues c.args.form c.args.head c.sizes_of-sizes.ensures c.bytes_of-bytes.ensures)

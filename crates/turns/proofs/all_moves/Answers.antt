@@ -20,10 +20,10 @@ pub loop-k-init : goal.loop-k-init
 loop-k-init c = (taken_start c.requires.ready c.requires.move_length_in_bounds, refl, refl, refl, refl, refl, remembered_start c.requires.setting.limits c.requires.ready.coloured, length-replicate {A = ℕ} (most_regions + most_sectors) 0)
 
 pub turn-standing-requires : goal.turn-standing-requires
-turn-standing-requires c = ((c.requires.sorted, c.weights_of-weights.ensures), (c.loop-k.invariant.6, (omega (arith, c.loop-k-test.true, c.requires.move_length_bound), (setting_queue c.requires.setting c.loop-k.invariant.4, (c.loop-k.invariant.0.ready, (omega (arith, c.loop-k-test.true), (omega (arith, c.loop-k-test.true, c.requires.move_length_in_bounds, c.loop-k.invariant.5), c.requires.flown)))))))
+turn-standing-requires c = record { sorted = (c.requires.sorted, c.weights_of-weights.ensures); remembered = c.loop-k.invariant.6; k_bound = omega (arith, c.loop-k-test.true, c.requires.move_length_bound); setting = setting_queue c.requires.setting c.loop-k.invariant.4; ready = c.loop-k.invariant.0.ready; move_length_in_bounds = omega (arith, c.loop-k-test.true); row_length_in_bounds = omega (arith, c.loop-k-test.true, c.requires.move_length_in_bounds, c.loop-k.invariant.5); flown = c.requires.flown }
 
 pub overflow_add-k : goal.overflow_add-k
-overflow_add-k c = omega (arith, c.loop-k-test.true, c.well-formed.1.1.1.1.1.1.1.1.1.1.1.1.1.1.1.1.1.1.0)
+overflow_add-k c = omega (arith, c.loop-k-test.true, c.well_formed.1.1.1.1.1.1.1.1.1.1.1.1.1.1.1.1.1.1.0)
 
 pub loop-k-preserved : goal.loop-k-preserved
 loop-k-preserved c =

@@ -30,7 +30,7 @@ pub bounds-moves-at-3 : goal.bounds-moves-at-3
 bounds-moves-at-3 c = omega (arith, c.requires.move_length_in_bounds)
 
 pub step-stepped-requires : goal.step-stepped-requires
-step-stepped-requires c = (c.requires.sorted, (c.requires.remembered, (c.requires.k_bound, (c.requires.setting, (c.requires.ready, (rw c.new-asked.ensures (move_within _ _ _ _), c.requires.flown))))))
+step-stepped-requires c = record { sorted = c.requires.sorted; remembered = c.requires.remembered; clock_bound = c.requires.k_bound; setting = c.requires.setting; ready = c.requires.ready; within = rw c.new-asked.ensures (move_within _ _ _ _); flown = c.requires.flown }
 
 pub put_row-requires : goal.put_row-requires
 put_row-requires c = record { row_length_in_bounds = c.requires.row_length_in_bounds; every = said_fits c.requires.setting.limits c.step-stepped.ensures.answered c.new-asked.ensures c.status_of.ensures (move_within _ _ _ _) }

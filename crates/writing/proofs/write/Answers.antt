@@ -15,7 +15,7 @@ pub returns-then-refusal-ne0 : goal.returns-then-refusal-ne0
 returns-then-refusal-ne0 c = promise_refused _ _ c.plain_refusal-refusal.ensures c.if-refusal-ne0.true c.refused.ensures
 
 pub write_where_room-requires : goal.write_where_room-requires
-write_where_room-requires c = let r = contents_handed First (given (goal.at.write_where_room-requires c).Start) c.write_where_room-arg-1.ensures refl c.write_where_room-arg-3-1.false in record { head_limits = r.0; so_many = r.1 }
+write_where_room-requires c = let r = contents_handed First (given (goal.at.write_where_room-requires c).Start) c.plain_refusal-refusal.ensures refl c.if-refusal-ne0.false in record { head_limits = r.0; so_many = r.1 }
 
 pub returns : goal.returns
-returns c = promise_put First (given (goal.at.returns c).Start) c.write_where_room-arg-1.ensures refl c.write_where_room-arg-3-1.false c.write_where_room.ensures
+returns c = promise_put First (given (goal.at.returns c).Start) c.plain_refusal-refusal.ensures refl c.if-refusal-ne0.false c.write_where_room.ensures

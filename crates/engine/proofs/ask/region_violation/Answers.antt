@@ -39,7 +39,7 @@ pub bounds-outside-v : goal.bounds-outside-v
 bounds-outside-v c = omega (arith, c.requires.asking.region, c.requires.asking.kept.limits.outside)
 
 pub overflow_add-border : goal.overflow_add-border
-overflow_add-border c = asking_border_fits c.requires.asking c.border_at-inside.ensures
+overflow_add-border c = record { fits = asking_border_fits c.requires.asking c.border_at-inside.ensures }
 
 pub offset_bounds-work-at-2 : goal.offset_bounds-work-at-2
 offset_bounds-work-at-2 c = omega (arith, asking_sector c.requires.asking, c.requires.asking.kept.room, c.requires.asking.kept.limits)
@@ -48,7 +48,7 @@ pub bounds-work-at-2 : goal.bounds-work-at-2
 bounds-work-at-2 c = omega (arith, asking_sector c.requires.asking, c.requires.asking.kept.room, c.requires.asking.kept.limits)
 
 pub overflow_mul-sectors : goal.overflow_mul-sectors
-overflow_mul-sectors c = asking_fits c.requires.asking
+overflow_mul-sectors c = record { fits = asking_fits c.requires.asking }
 
 pub price_visitors-dwell-requires : goal.price_visitors-dwell-requires
 price_visitors-dwell-requires c = record { pricing = flown_pricing c.requires.asking.kept.coloured c.requires.flown; in_range = rw c.requires.asking.kept.coloured.size c.requires.asking.region }

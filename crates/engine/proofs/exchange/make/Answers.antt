@@ -13,9 +13,7 @@ pub returns-then-from-to : goal.returns-then-from-to
 returns-then-from-to c = alike_remade c.requires.exchanging c.if-from-to.true
 
 pub sides_in-before-requires : goal.sides_in-before-requires
-sides_in-before-requires c =
-    let k = c.before.before.before.before.before.before.before.before.before.before.before.before.before.before.before.before.before.before.before.before.before.before.before.before.requires.1.0 in
-    turning_placed (swapping_first (exchanging_swapping k c.slice_known-5-1.false)) (exchanging_kept k) k.ready.prices
+sides_in-before-requires c = turning_placed (swapping_first (exchanging_swapping c.requires.exchanging c.if-from-to.false)) (exchanging_kept c.requires.exchanging) c.requires.exchanging.ready.prices
 
 pub slice_bounds-turn_both-end : goal.slice_bounds-turn_both-end
 slice_bounds-turn_both-end c = omega (arith, c.requires.exchanging.ready.room)
@@ -25,12 +23,12 @@ slice_bounds-turn_both-end-2 c = sym (length-take-le _ c.args.work.now (omega (a
 
 pub turn_both-turned-requires : goal.turn_both-turned-requires
 turn_both-turned-requires c =
-    let t = exchanging_swapping c.requires.exchanging c.slice_known-5-1.false in
+    let t = exchanging_swapping c.requires.exchanging c.if-from-to.false in
     let kept = exchanging_kept c.requires.exchanging in
-    (c.requires.sorted.limited, (t, (turning_sides (swapping_first t) kept c.requires.exchanging.ready.prices c.sides_in-before.ensures, (kept-labels kept, c.requires.flown))))
+    record { limited_value = c.requires.sorted.limited; swapping = t; before_value = turning_sides (swapping_first t) kept c.requires.exchanging.ready.prices c.sides_in-before.ensures; labels_value = kept-labels kept; flown = c.requires.flown }
 
 pub settle-settled-requires : goal.settle-settled-requires
-settle-settled-requires c = (c.requires.sorted.shared, followed_settling c.requires.exchanging.setting c.requires.exchanging.ready c.turn_both-turned.ensures)
+settle-settled-requires c = record { shared_value = c.requires.sorted.shared; settling = followed_settling c.requires.exchanging.setting c.requires.exchanging.ready c.turn_both-turned.ensures }
 
 pub returns : goal.returns
 returns c = followed_remade c.requires.exchanging.setting c.requires.exchanging.ready c.turn_both-turned.ensures c.settle-settled.ensures.left c.settle-settled.ensures.r_value

@@ -7,17 +7,13 @@ use Rattle.engine.specs.Swapping.{swapping_first, swapping_second, swapping_side
 use Rattle.engine.proofs.exchange.turn_both.Goals as goal
 
 pub copy-requires : goal.copy-requires
-copy-requires c = let s = c.before.before.before.before.before.before.before.before.before.before.before.before.before.before.before.before.before.before.before.before.before.requires.1 in omega (arith, swapping_size s.0 s.1.1.0, s.0.basis.limits.R)
+copy-requires c = omega (arith, swapping_size c.requires.swapping c.requires.labels_value, c.requires.swapping.basis.limits.R)
 
 pub turn-once-requires : goal.turn-once-requires
-turn-once-requires c = (c.requires.limited_value, (swapping_first c.requires.swapping, TODO_s.1.1))
+turn-once-requires c = record { limited_value = c.requires.limited_value; turning = swapping_first c.requires.swapping; before_value = c.requires.before_value; labels_value = c.requires.labels_value; flown = c.requires.flown }
 
 pub turn-twice-requires : goal.turn-twice-requires
-turn-twice-requires c =
-    (
-      c.requires.limited_value,
-      (swapping_second c.requires.swapping c.colouring-1.ensures.0.colouring c.colouring-1.auto.1.1.1.1.1.1.1.1.1.1.1.1.1.1.1.1.1.0, (swapping_sides c.requires.swapping c.colouring-1.ensures.0.colouring c.colouring-1.ensures.0.changed c.turned_round-between.ensures, (between_labelled c.requires.swapping c.requires.labels_value c.colouring-1.ensures.0, c.requires.flown))),
-    )
+turn-twice-requires c = record { limited_value = c.requires.limited_value; turning = swapping_second c.requires.swapping c.turn-once.ensures.followed.colouring c.turn-once.auto.queue; before_value = swapping_sides c.requires.swapping c.turn-once.ensures.followed.colouring c.turn-once.ensures.followed.changed c.turned_round-between.ensures; labels_value = between_labelled c.requires.swapping c.requires.labels_value c.turn-once.ensures.followed; flown = c.requires.flown }
 
 pub slice_bounds-old-end : goal.slice_bounds-old-end
 slice_bounds-old-end c = omega (arith, c.copy.auto.to, c.requires.swapping.basis.limits.R)
@@ -28,19 +24,10 @@ slice_bounds-differing-end c = sym (length-take-le _ c.copy.new.to (omega (arith
 pub differing-requires : goal.differing-requires
 differing-requires c =
     length-take-le _ c.copy.new.to (omega (arith, c.copy.auto.to, c.requires.swapping.basis.limits.R))
-    ∙ sym (c.turn-arg-6-1.auto.1.1.1.1.1.1.1.1.1.1.1.1.1.1.1.1.0 ∙ c.turn-once.auto.labels ∙ swapping_size c.requires.swapping c.requires.labels_value)
+    ∙ sym (c.turn-twice.auto.labels ∙ c.turn-once.auto.labels ∙ swapping_size c.requires.swapping c.requires.labels_value)
 
 pub together-requires : goal.together-requires
-together-requires c = swapping_addable c.requires.swapping c.turn-once.ensures.followed.colouring (followed_turns c.turn-once.ensures.followed c.turn-once.ensures.single) (followed_turns c.turn-arg-6-1.ensures.0 c.turn-arg-6-1.ensures.1)
-
-pub shape_of-colouring : goal.shape_of-colouring
-shape_of-colouring c = c.turn-arg-6-1.auto.1.1.1.1.1.1.1.1.1.1.1.1.1.1.1.0 ∙ c.turn-once.auto.colouring
-
-pub shape_of-labels : goal.shape_of-labels
-shape_of-labels c = c.turn-arg-6-1.auto.1.1.1.1.1.1.1.1.1.1.1.1.1.1.1.1.0 ∙ c.turn-once.auto.labels
-
-pub shape_of-queue : goal.shape_of-queue
-shape_of-queue c = c.turn-arg-6-1.auto.1.1.1.1.1.1.1.1.1.1.1.1.1.1.1.1.1.0 ∙ c.turn-once.auto.queue
+together-requires c = swapping_addable c.requires.swapping c.turn-once.ensures.followed.colouring (followed_turns c.turn-once.ensures.followed c.turn-once.ensures.single) (followed_turns c.turn-twice.ensures.followed c.turn-twice.ensures.single)
 
 pub returns : goal.returns
-returns c = swapping_followed c.requires.swapping c.requires.labels_value c.turn-once.ensures.followed _ c.turn-arg-6-1.ensures.0 c.turn-once.ensures.single c.turn-arg-6-1.ensures.1 c.copy.ensures c.differing.ensures TODO_c.together.ensures
+returns c = swapping_followed c.requires.swapping c.requires.labels_value c.turn-once.ensures.followed _ c.turn-twice.ensures.followed c.turn-once.ensures.single c.turn-twice.ensures.single c.copy.ensures c.differing.ensures (c.together.ensures.change_value, c.together.ensures.relabelled_value)

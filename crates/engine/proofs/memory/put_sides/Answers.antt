@@ -14,9 +14,3 @@ bounds-work-new-2 c = simp length-set (omega arith)
 
 pub bounds-prices-sector : goal.bounds-prices-sector
 bounds-prices-sector c = simp length-set (omega arith)
-
-pub shape_of-work : goal.shape_of-work
-shape_of-work c = simp length-set
-
-pub shape_of-prices : goal.shape_of-prices
-shape_of-prices c = simp length-set

@@ -12,9 +12,7 @@ pub returns-then-own-sector : goal.returns-then-own-sector
 returns-then-own-sector c = still_remade c.requires.recolouring c.if-own-sector.true
 
 pub sides_in-before-requires : goal.sides_in-before-requires
-sides_in-before-requires c =
-    let k = c.before.before.before.before.before.before.before.before.before.before.before.before.before.before.before.before.before.before.before.before.before.before.before.requires.1.0 in
-    turning_placed (recolouring_turning k c.slice_known-4-1.false) (recolouring-kept k) k.ready.prices
+sides_in-before-requires c = turning_placed (recolouring_turning c.requires.recolouring c.if-own-sector.false) (recolouring-kept c.requires.recolouring) c.requires.recolouring.ready.prices
 
 pub slice_bounds-turn-end : goal.slice_bounds-turn-end
 slice_bounds-turn-end c = omega (arith, c.requires.recolouring.ready.room)
@@ -24,12 +22,12 @@ slice_bounds-turn-end-2 c = sym (length-take-le _ c.args.work.now (omega (arith,
 
 pub turn-turned-requires : goal.turn-turned-requires
 turn-turned-requires c =
-    let t = recolouring_turning c.requires.recolouring c.slice_known-4-1.false in
+    let t = recolouring_turning c.requires.recolouring c.if-own-sector.false in
     let kept = recolouring-kept c.requires.recolouring in
-    (c.requires.sorted.limited, (t, (turning_sides t kept c.requires.recolouring.ready.prices c.sides_in-before.ensures, (kept-labels kept, c.requires.flown))))
+    record { limited_value = c.requires.sorted.limited; turning = t; before_value = turning_sides t kept c.requires.recolouring.ready.prices c.sides_in-before.ensures; labels_value = kept-labels kept; flown = c.requires.flown }
 
 pub settle-settled-requires : goal.settle-settled-requires
-settle-settled-requires c = (c.requires.sorted.shared, followed_settling c.requires.recolouring.setting c.requires.recolouring.ready c.turn-turned.ensures.followed)
+settle-settled-requires c = record { shared_value = c.requires.sorted.shared; settling = followed_settling c.requires.recolouring.setting c.requires.recolouring.ready c.turn-turned.ensures.followed }
 
 pub returns : goal.returns
 returns c = followed_remade c.requires.recolouring.setting c.requires.recolouring.ready c.turn-turned.ensures.followed c.settle-settled.ensures.left c.settle-settled.ensures.r_value

@@ -9,15 +9,15 @@ pub returns-then-own-sector : goal.returns-then-own-sector
 returns-then-own-sector c = record { remembered = c.requires.remembered; r_value = still-total c.requires.recolouring c.if-own-sector.true; colouring_after = refl }
 
 pub change_at-change-requires : goal.change_at-change-requires
-change_at-change-requires c = (ready_paid c.requires.sorted c.requires.recolouring.ready, (c.requires.remembered, (recolouring_turning c.requires.recolouring c.if-own-sector.false, (recolouring-kept c.requires.recolouring, c.requires.flown))))
+change_at-change-requires c = record { paid = ready_paid c.requires.sorted c.requires.recolouring.ready; remembered = c.requires.remembered; turning = recolouring_turning c.requires.recolouring c.if-own-sector.false; kept = recolouring-kept c.requires.recolouring; flown = c.requires.flown }
 
 pub figures_after-figures-requires : goal.figures_after-figures-requires
-figures_after-figures-requires c = changing_shifting (ready_changing c.requires.recolouring.setting c.requires.recolouring.ready c.colouring-1.ensures.1.0.changed)
+figures_after-figures-requires c = changing_shifting (ready_changing c.requires.recolouring.setting c.requires.recolouring.ready c.change_at-change.ensures.turns.changed)
 
 pub total-requires : goal.total-requires
-total-requires c = let r = changing_totalling (ready_changing c.requires.recolouring.setting c.requires.recolouring.ready c.colouring-1.ensures.1.0.changed) c.figures_after-figures.ensures c.requires.sorted.shared in record { small_figures = r.0; paying = r.1 }
+total-requires c = let r = changing_totalling (ready_changing c.requires.recolouring.setting c.requires.recolouring.ready c.change_at-change.ensures.turns.changed) c.figures_after-figures.ensures c.requires.sorted.shared in record { small_figures = r.0; paying = r.1 }
 
 pub returns : goal.returns
 returns c =
-    let changing = ready_changing c.requires.recolouring.setting c.requires.recolouring.ready c.colouring-1.ensures.1.0.changed in
-record { remembered = c.colouring-1.ensures.0; r_value = total_changed changing c.figures_after-figures.ensures c.requires.sorted.shared c.total.ensures; colouring_after = c.colouring-1.ensures.1.1 }
+    let changing = ready_changing c.requires.recolouring.setting c.requires.recolouring.ready c.change_at-change.ensures.turns.changed in
+    record { remembered = c.change_at-change.ensures.remembered; r_value = total_changed changing c.figures_after-figures.ensures c.requires.sorted.shared c.total.ensures; colouring_after = c.change_at-change.ensures.colouring_after }

@@ -4,7 +4,7 @@ use Rattle.engine.specs.Settling.{settling_placed, settling_left}
 use Rattle.engine.proofs.settle.settle.Goals as goal
 
 pub figures_after-figures-requires : goal.figures_after-figures-requires
-figures_after-figures-requires c = changing_shifting c.shared_slice_known-1.1.changing
+figures_after-figures-requires c = changing_shifting c.requires.settling.changing
 
 pub total-after-requires : goal.total-after-requires
 total-after-requires c = let r = changing_totalling c.requires.settling.changing c.figures_after-figures.ensures c.requires.shared_value in record { small_figures = r.0; paying = r.1 }
@@ -13,4 +13,4 @@ pub put_sides-requires : goal.put_sides-requires
 put_sides-requires c = settling_placed c.requires.settling
 
 pub returns : goal.returns
-returns c = record { left = settling_left c.requires.settling c.put_sides.ensures.work_after c.put_sides.ensures.prices_after; r_value = standing_changed c.requires.settling.changing c.total-after.ensures c.requires.shared_value c.put_sides-arg-1.ensures }
+returns c = record { left = settling_left c.requires.settling c.put_sides.ensures.work_after c.put_sides.ensures.prices_after; r_value = standing_changed c.requires.settling.changing c.figures_after-figures.ensures c.requires.shared_value c.total-after.ensures }

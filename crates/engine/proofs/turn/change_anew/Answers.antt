@@ -17,4 +17,4 @@ change_of-requires c = turning_movable c.requires.turning c.requires.before_valu
 pub returns : goal.returns
 returns c =
     let costs = turning_costs c.requires.turning c.requires.flown c.look_anew-look.ensures.colouring_unchanged c.swing_at-dwell.ensures in
-record { turns = turning_turns c.requires.turning c.requires.before_value c.look_anew-look.ensures.looked c.requires.limited_value c.paid-arg-1.ensures costs c.change_of.ensures; colouring_after = c.look_anew-look.ensures.colouring_unchanged }
+    record { turns = turning_turns c.requires.turning c.requires.before_value c.look_anew-look.ensures.looked c.requires.limited_value c.paid-after.ensures costs c.change_of.ensures; colouring_after = c.look_anew-look.ensures.colouring_unchanged }

@@ -37,5 +37,5 @@ pub returns : goal.returns
 returns c =
     let before = turning_sides c.requires.turning c.requires.kept c.requires.paid.prices c.sides_in-before.ensures in
     let costs = turning_costs c.requires.turning c.requires.flown c.look_at-look.ensures.colouring_unchanged c.swing_at-dwell.ensures in
-    let turns = turning_turns c.requires.turning before c.look_at-look.ensures.looked c.requires.paid.limited c.paid-arg-1.ensures costs c.change_of.ensures in
-record { remembered = turning_remembers c.requires.turning c.look_at-look.ensures.remembered_2; turns = turns; colouring_after = c.look_at-look.ensures.colouring_unchanged }
+    let turns = turning_turns c.requires.turning before c.look_at-look.ensures.looked c.requires.paid.limited c.paid-after.ensures costs c.change_of.ensures in
+    record { remembered = turning_remembers c.requires.turning c.look_at-look.ensures.remembered_2; turns = turns; colouring_after = c.look_at-look.ensures.colouring_unchanged }

@@ -1,11 +1,10 @@
 -- What the region meets and the pieces that are found as the labels follow make a look, and with what the two sectors have and the flights gain and lose they make the change.
-use mathlib.Core.Path.{◌∙◌}
 use Rattle.search.specs.Looking.{looked_both}
 use Rattle.engine.specs.Turning.{turning_looking, turning_labels, turning_paying, turning_pricing, turning_costs, turning_movable, turning_turns, turning_followed}
 use Rattle.engine.proofs.turn.turn.Goals as goal
 
 pub meet-met-requires : goal.meet-met-requires
-meet-met-requires c = let s = c.before.before.before.before.before.before.before.before.before.before.before.before.before.before.before.before.before.before.before.before.before.requires.1 in record { looking = turning_looking s.0; labels_value = s.1.1.0 }
+meet-met-requires c = record { looking = turning_looking c.requires.turning; labels_value = c.requires.labels_value }
 
 pub paid-after-requires : goal.paid-after-requires
 paid-after-requires c = let r = turning_paying c.requires.turning c.requires.before_value c.requires.limited_value in record { paying = r.0; passing = r.1 }
@@ -19,14 +18,8 @@ recolour-labelled-requires c = turning_labels c.requires.turning c.meet-met.ensu
 pub change_of-change-requires : goal.change_of-change-requires
 change_of-change-requires c = turning_movable c.requires.turning c.requires.before_value (looked_both c.meet-met.ensures.colouring_unchanged c.meet-met.ensures.meets c.recolour-labelled.ensures.pieces_value)
 
-pub shape_of-colouring : goal.shape_of-colouring
-shape_of-colouring c = c.recolour-labelled.auto.colouring ∙ c.meet-met.auto.colouring
-
-pub shape_of-queue : goal.shape_of-queue
-shape_of-queue c = c.recolour-labelled.auto.queue ∙ c.meet-met.auto.queue
-
 pub returns : goal.returns
 returns c =
     let costs = turning_costs c.requires.turning c.requires.flown c.meet-met.ensures.colouring_unchanged c.swing_at-dwell.ensures in
-    let turns = turning_turns c.requires.turning c.requires.before_value (looked_both c.meet-met.ensures.colouring_unchanged c.meet-met.ensures.meets c.recolour-labelled.ensures.pieces_value) c.requires.limited_value c.paid-arg-1.ensures costs c.change_of-change.ensures in
-record { followed = turning_followed c.requires.turning c.meet-met.ensures.colouring_unchanged c.requires.labels_value c.recolour-labelled.ensures.colouring_after c.recolour-labelled.ensures.labels_after c.recolour-labelled.ensures.relabelled_value turns; single = turns.single }
+    let turns = turning_turns c.requires.turning c.requires.before_value (looked_both c.meet-met.ensures.colouring_unchanged c.meet-met.ensures.meets c.recolour-labelled.ensures.pieces_value) c.requires.limited_value c.paid-after.ensures costs c.change_of-change.ensures in
+    record { followed = turning_followed c.requires.turning c.meet-met.ensures.colouring_unchanged c.requires.labels_value c.recolour-labelled.ensures.colouring_after c.recolour-labelled.ensures.labels_after c.recolour-labelled.ensures.relabelled_value turns; single = turns.single }

@@ -8,10 +8,10 @@ pub colouring_section-requires : goal.colouring_section-requires
 colouring_section-requires c = (bounded _ c.requires.has_blocks.0.limits).regions
 
 pub colouring_at-requires : goal.colouring_at-requires
-colouring_at-requires c = bounded _ c.shared_slice_known-1.0.0.limits
+colouring_at-requires c = bounded _ c.requires.has_blocks.0.limits
 
 pub read_section-requires : goal.read_section-requires
-read_section-requires c = let r = section_asks (laid_ones 5 _) c.read_section-arg-1.ensures c.shared_slice_known-1.0 c.shared_slice_known-1.1 c.colouring_at.ensures (omega arith) (omega arith) in record { whole = r.0; section_in_bounds = r.1.0; widths_in_bounds = r.1.1 }
+read_section-requires c = let r = section_asks (laid_ones 5 _) c.colouring_section.ensures c.requires.has_blocks c.requires.first_value c.colouring_at.ensures (omega arith) (omega arith) in record { whole = r.0; section_in_bounds = r.1.0; widths_in_bounds = r.1.1 }
 
 pub returns : goal.returns
-returns c = let r = section-read (laid_ones 5 _) c.read_section-arg-1.ensures c.shared_slice_known-1.sheet.now c.shared_slice_known-1.held.now c.shared_slice_known-1.1 c.colouring_at.ensures TODO_c.read-section.ensures in record { value = r.0; held_after = r.1 }
+returns c = let r = section-read (laid_ones 5 _) c.colouring_section.ensures c.args.sheet.now c.args.held.now c.requires.first_value c.colouring_at.ensures (c.read_section.ensures.value, c.read_section.ensures.out_after) in record { value = r.0; held_after = r.1 }

@@ -11,9 +11,9 @@ pub colouring_at-end-requires : goal.colouring_at-end-requires
 colouring_at-end-requires c = bounded _ c.requires.has_blocks.0.limits
 
 pub read_section-next-requires : goal.read_section-next-requires
-read_section-next-requires c = let r = section_asks (laid_constraints _) c.read_section-arg-1.ensures c.shared_slice_known-1.0 c.shared_slice_known-1.1 c.colouring_at-end.ensures (omega arith) (omega arith) in record { whole = r.0; section_in_bounds = r.1.0; widths_in_bounds = r.1.1 }
+read_section-next-requires c = let r = section_asks (laid_constraints _) c.constraint_section.ensures c.requires.has_blocks c.requires.first_value c.constraints_at-at.ensures (omega arith) (omega arith) in record { whole = r.0; section_in_bounds = r.1.0; widths_in_bounds = r.1.1 }
 
 pub returns : goal.returns
 returns c =
-    let r = section-read (laid_constraints _) c.read_section-arg-1.ensures c.shared_slice_known-1.sheet.now c.shared_slice_known-1.held.now c.shared_slice_known-1.1 c.colouring_at-end.ensures TODO_c.read-section.ensures in
-record { value = r.0; held_after = constraints_read c.shared_slice_known-1.held.now c.shared_slice_known-1.0 c.colouring_at-end.ensures c.constraint_section.ensures r.1 c.turn.ensures }
+    let r = section-read (laid_constraints _) c.constraint_section.ensures c.args.sheet.now c.args.held.now c.requires.first_value c.constraints_at-at.ensures (c.read_section-next.ensures.value, c.read_section-next.ensures.out_after) in
+    record { value = r.0; held_after = constraints_read c.args.held.now c.requires.has_blocks c.constraints_at-at.ensures c.colouring_at-end.ensures r.1 c.turn.ensures }

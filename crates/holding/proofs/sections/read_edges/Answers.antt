@@ -8,10 +8,10 @@ pub edge_section-requires : goal.edge_section-requires
 edge_section-requires c = (bounded _ c.requires.has_blocks.0.limits).edges
 
 pub edges_at-requires : goal.edges_at-requires
-edges_at-requires c = bounded _ c.shared_slice_known-1.0.0.limits
+edges_at-requires c = bounded _ c.requires.has_blocks.0.limits
 
 pub read_section-requires : goal.read_section-requires
-read_section-requires c = let r = section_asks (laid_edges _) c.read_section-arg-1.ensures c.shared_slice_known-1.0 c.shared_slice_known-1.1 c.edges_at.ensures (omega arith) (omega arith) in record { whole = r.0; section_in_bounds = r.1.0; widths_in_bounds = r.1.1 }
+read_section-requires c = let r = section_asks (laid_edges _) c.edge_section.ensures c.requires.has_blocks c.requires.first_value c.edges_at.ensures (omega arith) (omega arith) in record { whole = r.0; section_in_bounds = r.1.0; widths_in_bounds = r.1.1 }
 
 pub returns : goal.returns
-returns c = let r = section-read (laid_edges _) c.read_section-arg-1.ensures c.shared_slice_known-1.sheet.now c.shared_slice_known-1.held.now c.shared_slice_known-1.1 c.edges_at.ensures TODO_c.read-section.ensures in record { value = r.0; held_after = r.1 }
+returns c = let r = section-read (laid_edges _) c.edge_section.ensures c.args.sheet.now c.args.held.now c.requires.first_value c.edges_at.ensures (c.read_section.ensures.value, c.read_section.ensures.out_after) in record { value = r.0; held_after = r.1 }

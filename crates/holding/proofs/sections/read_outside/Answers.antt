@@ -13,10 +13,10 @@ edges_at-end-requires c = bounded _ c.requires.has_blocks.0.limits
 
 pub read_section-requires : goal.read_section-requires
 read_section-requires c =
-    let few = few_outside c.shared_slice_known-1.form c.shared_slice_known-1.head.regions in
-let r = section_asks (laid_fours 6 _) c.read_section-arg-1.ensures (c.shared_slice_known-1.0.0, omega (arith, c.slice_known-2-1.given, c.shared_slice_known-1.0.1)) c.shared_slice_known-1.1 c.edges_at-end.ensures (omega arith) (omega arith) in record { whole = r.0; section_in_bounds = r.1.0; widths_in_bounds = r.1.1 }
+    let few = few_outside c.args.form c.args.head.regions in
+    let r = section_asks (laid_fours 6 _) c.outside_section.ensures (c.requires.has_blocks.0, omega (arith, c.held-1.given, c.requires.has_blocks.1)) c.requires.first_value c.outside_at-at.ensures (omega arith) (omega arith) in record { whole = r.0; section_in_bounds = r.1.0; widths_in_bounds = r.1.1 }
 
 pub returns : goal.returns
 returns c =
-    let r = section-read (laid_fours 6 _) c.read_section-arg-1.ensures c.shared_slice_known-1.sheet.now _ c.shared_slice_known-1.1 c.edges_at-end.ensures TODO_c.read-section.ensures in
-record { value = r.0; held_after = outside_read c.shared_slice_known-1.held.now c.shared_slice_known-1.0 c.edges_at-end.ensures c.clear-arg-1.ensures c.held-1.ensures r.1 }
+    let r = section-read (laid_fours 6 _) c.outside_section.ensures c.args.sheet.now _ c.requires.first_value c.outside_at-at.ensures (c.read_section.ensures.value, c.read_section.ensures.out_after) in
+    record { value = r.0; held_after = outside_read c.args.held.now c.requires.has_blocks c.outside_at-at.ensures c.edges_at-end.ensures c.clear.ensures r.1 }

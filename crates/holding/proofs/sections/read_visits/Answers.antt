@@ -10,12 +10,12 @@ pub visit_section-requires : goal.visit_section-requires
 visit_section-requires c = (bounded _ c.requires.has_blocks.0.limits).visits
 
 pub visits_at-requires : goal.visits_at-requires
-visits_at-requires c = bounded _ c.shared_slice_known-1.0.0.limits
+visits_at-requires c = bounded _ c.requires.has_blocks.0.limits
 
 pub read_section-requires : goal.read_section-requires
-read_section-requires c = let r = section_asks (laid_visits _) c.read_section-arg-1.ensures c.shared_slice_known-1.0 c.shared_slice_known-1.1 c.visits_at.ensures (omega arith) (omega arith) in record { whole = r.0; section_in_bounds = r.1.0; widths_in_bounds = r.1.1 }
+read_section-requires c = let r = section_asks (laid_visits _) c.visit_section.ensures c.requires.has_blocks c.requires.first_value c.visits_at.ensures (omega arith) (omega arith) in record { whole = r.0; section_in_bounds = r.1.0; widths_in_bounds = r.1.1 }
 
 pub returns : goal.returns
 returns c =
-    let r = section-read (laid_visits _) c.read_section-arg-1.ensures c.shared_slice_known-1.sheet.now c.shared_slice_known-1.held.now c.shared_slice_known-1.1 c.visits_at.ensures TODO_c.read-section.ensures in
-record { value = r.0 ∙ sym (blocks_all c.shared_slice_known-1.form c.shared_slice_known-1.head); held_after = r.1 }
+    let r = section-read (laid_visits _) c.visit_section.ensures c.args.sheet.now c.args.held.now c.requires.first_value c.visits_at.ensures (c.read_section.ensures.value, c.read_section.ensures.out_after) in
+    record { value = r.0 ∙ sym (blocks_all c.args.form c.args.head); held_after = r.1 }

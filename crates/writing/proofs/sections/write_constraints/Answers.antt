@@ -9,10 +9,10 @@ use Rattle.writing.proofs.sections.write_constraints.Goals as goal
 
 pub write_section-requires : goal.write_section-requires
 write_section-requires c =
-    let r = rw (turned_taken c.slice_known-1.constraints.now _ c.room-2-1.ensures)
-    (blocks_asked c.slice_known-1.form (laid_constraints c.slice_known-1.head.constraints) c.write_section-arg-2-1.ensures c.write_section-arg-3-1.ensures c.slice_known-1.1.0 (turned c.slice_known-1.constraints.now) c.slice_known-1.0 (omega (arith, blocks_all c.slice_known-1.form c.slice_known-1.head)) (length-turned c.slice_known-1.constraints.now ∙ omega (arith, c.slice_known-1.1.1))) in record { letters_len = r.0; section_in_bounds = r.1.0; widths_in_bounds = r.1.1 }
+    let r = rw (turned_taken c.args.constraints.now _ c.copy_turned.ensures)
+    (blocks_asked c.args.form (laid_constraints c.args.head.constraints) c.letters.ensures c.constraint_section.ensures c.requires.first_value.0 (turned c.args.constraints.now) c.requires.has_blocks (omega (arith, blocks_all c.args.form c.args.head)) (length-turned c.args.constraints.now ∙ omega (arith, c.requires.first_value.1))) in record { letters_len = r.0; section_in_bounds = r.1.0; widths_in_bounds = r.1.1 }
 
 pub returns : goal.returns
 returns c =
-    let r = blocks_written c.slice_known-1.form (laid_constraints c.slice_known-1.head.constraints) c.write_section-arg-2-1.ensures c.write_section-arg-3-1.ensures c.slice_known-1.1.0 (turned c.slice_known-1.constraints.now) c.slice_known-1.sheet.now
-    (rw (turned_taken c.slice_known-1.constraints.now _ c.room-2-1.ensures) at TODO_c.write-section.ensures) in record { value = r.0; sheet_after = r.1 }
+    let r = blocks_written c.args.form (laid_constraints c.args.head.constraints) c.letters.ensures c.constraint_section.ensures c.requires.first_value.0 (turned c.args.constraints.now) c.args.sheet.now
+    (rw (turned_taken c.args.constraints.now _ c.copy_turned.ensures) at (c.write_section.ensures.value, c.write_section.ensures.sheet_after)) in record { value = r.0; sheet_after = r.1 }

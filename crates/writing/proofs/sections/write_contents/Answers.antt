@@ -7,22 +7,22 @@ use Rattle.writing.proofs.sections.write_contents.Goals as goal
 use Rattle.writing.proofs.sections.write_contents.Goals.{After-write_colouring-first, After-write_constraints-first, After-write_counts-first, After-write_edges-first, After-write_outside-first, After-write_workloads-first}
 
 -- each step leaves as many bytes as it was lent
-kept-workloads : (c : After-write_workloads-first) → length c.write_workloads-first.new.1.0 ≡ length c.args.sheet.now
+kept-workloads : (c : After-write_workloads-first) → length c.write_workloads-first.new.sheet ≡ length c.args.sheet.now
 kept-workloads c = c.write_workloads-first.auto.sheet ∙ c.write_head-first.auto.sheet
 
-kept-outside : (c : After-write_outside-first) → length c.write_outside-first.new.1.0 ≡ length c.args.sheet.now
+kept-outside : (c : After-write_outside-first) → length c.write_outside-first.new.sheet ≡ length c.args.sheet.now
 kept-outside c = c.write_outside-first.auto.sheet ∙ kept-workloads c
 
-kept-edges : (c : After-write_edges-first) → length c.write_edges-first.new.1.0 ≡ length c.args.sheet.now
+kept-edges : (c : After-write_edges-first) → length c.write_edges-first.new.sheet ≡ length c.args.sheet.now
 kept-edges c = c.write_edges-first.auto.sheet ∙ kept-outside c
 
-kept-constraints : (c : After-write_constraints-first) → length c.write_constraints-first.new.1.0 ≡ length c.args.sheet.now
+kept-constraints : (c : After-write_constraints-first) → length c.write_constraints-first.new.sheet ≡ length c.args.sheet.now
 kept-constraints c = c.write_constraints-first.auto.sheet ∙ kept-edges c
 
-kept-colouring : (c : After-write_colouring-first) → length c.write_colouring-first.new.1.0 ≡ length c.args.sheet.now
+kept-colouring : (c : After-write_colouring-first) → length c.write_colouring-first.new.sheet ≡ length c.args.sheet.now
 kept-colouring c = c.write_colouring-first.auto.sheet ∙ kept-constraints c
 
-kept-counts : (c : After-write_counts-first) → length c.write_counts-first.new.1.0 ≡ length c.args.sheet.now
+kept-counts : (c : After-write_counts-first) → length c.write_counts-first.new.sheet ≡ length c.args.sheet.now
 kept-counts c = c.write_counts-first.auto.sheet ∙ kept-colouring c
 
 pub write_head-first-requires : goal.write_head-first-requires

@@ -9,7 +9,7 @@ pub count_section-requires : goal.count_section-requires
 count_section-requires c = (bounded c.args.form c.requires.has_blocks.limits).flights
 
 pub write_section-requires : goal.write_section-requires
-write_section-requires c = let r = blocks_asked c.slice_known-1.form (laid_ones 7 c.slice_known-1.head.flights) c.write_section-arg-2-1.ensures c.write_section-arg-3-1.ensures c.slice_known-1.1.0 c.slice_known-1.counts.now c.slice_known-1.0 (omega (arith, blocks_all c.slice_known-1.form c.slice_known-1.head)) (omega (arith, c.slice_known-1.1.1)) in record { letters_len = r.0; section_in_bounds = r.1.0; widths_in_bounds = r.1.1 }
+write_section-requires c = let r = blocks_asked c.args.form (laid_ones 7 c.args.head.flights) c.letters.ensures c.count_section.ensures c.requires.first_value.0 c.args.counts.now c.requires.has_blocks (omega (arith, blocks_all c.args.form c.args.head)) (omega (arith, c.requires.first_value.1)) in record { letters_len = r.0; section_in_bounds = r.1.0; widths_in_bounds = r.1.1 }
 
 pub returns : goal.returns
-returns c = let r = blocks_written c.slice_known-1.form (laid_ones 7 c.slice_known-1.head.flights) c.write_section-arg-2-1.ensures c.write_section-arg-3-1.ensures c.slice_known-1.1.0 c.slice_known-1.counts.now c.slice_known-1.sheet.now TODO_c.write-section.ensures in record { value = r.0; sheet_after = r.1 }
+returns c = let r = blocks_written c.args.form (laid_ones 7 c.args.head.flights) c.letters.ensures c.count_section.ensures c.requires.first_value.0 c.args.counts.now c.args.sheet.now (c.write_section.ensures.value, c.write_section.ensures.sheet_after) in record { value = r.0; sheet_after = r.1 }

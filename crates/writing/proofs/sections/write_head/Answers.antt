@@ -9,17 +9,17 @@ use Rattle.writing.specs.Sections.{blocks_asked, blocks_written, length_head}
 use Rattle.writing.proofs.sections.write_head.Goals as goal
 
 pub slice_bounds-write_section-end-3 : goal.slice_bounds-write_section-end-3
-slice_bounds-write_section-end-3 c = sym (length-take-le _ _ (omega (arith, few_head c.write_section-arg-1.form)))
+slice_bounds-write_section-end-3 c = sym (length-take-le _ _ (omega (arith, few_head c.args.form)))
 
 pub slice_bounds-numbers-end : goal.slice_bounds-numbers-end
-slice_bounds-numbers-end c = omega (arith, few_head c.slice_known-1.form)
+slice_bounds-numbers-end c = omega (arith, few_head c.args.form)
 
 pub write_section-requires : goal.write_section-requires
 write_section-requires c =
-    let r = rw (c.write_section-arg-1.ensures, c.head_bytes.ensures, head_widths_lem c.slice_known-1.form)
-    (blocks_asked c.slice_known-1.form (laid_head c.slice_known-1.form) c.write_section-arg-2-1.ensures c.write_section-arg-3-1.ensures refl (head_numbers c.slice_known-1.form c.slice_known-1.head) c.slice_known-1 (omega (arith, blocks_all c.slice_known-1.form c.slice_known-1.head)) (length_head c.slice_known-1.form c.slice_known-1.head)) in record { letters_len = r.0; section_in_bounds = r.1.0; widths_in_bounds = r.1.1 }
+    let r = rw (c.head_length-length.ensures, c.head_bytes.ensures, head_widths_lem c.args.form)
+    (blocks_asked c.args.form (laid_head c.args.form) c.letters.ensures c.head_section.ensures refl (head_numbers c.args.form c.args.head) c.requires (omega (arith, blocks_all c.args.form c.args.head)) (length_head c.args.form c.args.head)) in record { letters_len = r.0; section_in_bounds = r.1.0; widths_in_bounds = r.1.1 }
 
 pub returns : goal.returns
 returns c =
-    let r = blocks_written c.slice_known-1.form (laid_head c.slice_known-1.form) c.write_section-arg-2-1.ensures c.write_section-arg-3-1.ensures refl (head_numbers c.slice_known-1.form c.slice_known-1.head) c.slice_known-1.sheet.now
-    (rw (c.write_section-arg-1.ensures, c.head_bytes.ensures, head_widths_lem c.slice_known-1.form) at TODO_c.write-section.ensures) in record { value = r.0; sheet_after = r.1 }
+    let r = blocks_written c.args.form (laid_head c.args.form) c.letters.ensures c.head_section.ensures refl (head_numbers c.args.form c.args.head) c.args.sheet.now
+    (rw (c.head_length-length.ensures, c.head_bytes.ensures, head_widths_lem c.args.form) at (c.write_section.ensures.value, c.write_section.ensures.sheet_after)) in record { value = r.0; sheet_after = r.1 }

@@ -10,9 +10,9 @@ pub visit_section-requires : goal.visit_section-requires
 visit_section-requires c = (bounded c.args.form c.requires.has_blocks.limits).visits
 
 pub write_section-requires : goal.write_section-requires
-write_section-requires c = let r = blocks_asked c.slice_known-1.form (laid_visits c.slice_known-1.head.visits) c.write_section-arg-2-1.ensures c.write_section-arg-3-1.ensures c.slice_known-1.1.0 c.slice_known-1.visits.now c.slice_known-1.0 (omega (arith, blocks_all c.slice_known-1.form c.slice_known-1.head)) (omega (arith, c.slice_known-1.1.1)) in record { letters_len = r.0; section_in_bounds = r.1.0; widths_in_bounds = r.1.1 }
+write_section-requires c = let r = blocks_asked c.args.form (laid_visits c.args.head.visits) c.letters.ensures c.visit_section.ensures c.requires.first_value.0 c.args.visits.now c.requires.has_blocks (omega (arith, blocks_all c.args.form c.args.head)) (omega (arith, c.requires.first_value.1)) in record { letters_len = r.0; section_in_bounds = r.1.0; widths_in_bounds = r.1.1 }
 
 pub returns : goal.returns
 returns c =
-    let w = blocks_written c.slice_known-1.form (laid_visits c.slice_known-1.head.visits) c.write_section-arg-2-1.ensures c.write_section-arg-3-1.ensures c.slice_known-1.1.0 c.slice_known-1.visits.now c.slice_known-1.sheet.now TODO_c.write-section.ensures in
-record { value = w.0 ∙ sym (blocks_all c.slice_known-1.form c.slice_known-1.head); sheet_after = w.1 }
+    let w = blocks_written c.args.form (laid_visits c.args.head.visits) c.letters.ensures c.visit_section.ensures c.requires.first_value.0 c.args.visits.now c.args.sheet.now (c.write_section.ensures.value, c.write_section.ensures.sheet_after) in
+    record { value = w.0 ∙ sym (blocks_all c.args.form c.args.head); sheet_after = w.1 }
