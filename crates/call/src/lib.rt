@@ -5,7 +5,7 @@ ghost use Rattle.std.specs.Prelude.{◌≡◌, ◌++◌, ◌*◌, ◌≤◌, len
 ghost use Rattle.meaning.specs.Moves.{verdict_length};
 ghost use Rattle.judge.specs.Figures.{constraint_count};
 ghost use Rattle.refusals.specs.Valid.{Valid};
-ghost use Rattle.call.specs.Promise.{Input, Promise, input, given, plan_in, left, ran};
+ghost use Rattle.call.specs.Promise.{Promise, input, given, plan_in, left, ran};
 ghost use Rattle.call.specs.Concluding.{Concluding, concluded};
 ghost use Rattle.engine.specs.State.{Setting, Opening};
 ghost use Rattle.engine.specs.Sorted.{Sorted};
@@ -83,14 +83,12 @@ fn judge_all(
     prices: &mut [u64],
     queue: &mut [u64],
 ) -> Answer
-    ghost i: { Input }
-    requires work_value { input (length workloads.now) sectors workloads.now outside.now edges.now counts.now visits.now constraints.now colouring.old moves.now rows.old verdicts.old work.old ≡ i }
-    requires valid { Valid (given i) }
-    requires sorted { Sorted (plan_in i) shared.now limited.now }
-    requires setting { Setting (plan_in i) whole start.now near.now areas.now queue.old }
-    requires opening { Opening (plan_in i) colouring.old work.old prices.old }
-    requires flown { Flown (plan_in i) timed.now counts.now visits.now visited.now flights.now firsts.now }
-    ensures { left result colouring.new rows.new verdicts.new work.new ≡ ran i }
+    requires valid { let i = input (length workloads.now) sectors workloads.now outside.now edges.now counts.now visits.now constraints.now colouring.old moves.now rows.old verdicts.old work.old in Valid (given i) }
+    requires sorted { let i = input (length workloads.now) sectors workloads.now outside.now edges.now counts.now visits.now constraints.now colouring.old moves.now rows.old verdicts.old work.old in Sorted (plan_in i) shared.now limited.now }
+    requires setting { let i = input (length workloads.now) sectors workloads.now outside.now edges.now counts.now visits.now constraints.now colouring.old moves.now rows.old verdicts.old work.old in Setting (plan_in i) whole start.now near.now areas.now queue.old }
+    requires opening { let i = input (length workloads.now) sectors workloads.now outside.now edges.now counts.now visits.now constraints.now colouring.old moves.now rows.old verdicts.old work.old in Opening (plan_in i) colouring.old work.old prices.old }
+    requires flown { let i = input (length workloads.now) sectors workloads.now outside.now edges.now counts.now visits.now constraints.now colouring.old moves.now rows.old verdicts.old work.old in Flown (plan_in i) timed.now counts.now visits.now visited.now flights.now firsts.now }
+    ensures { let i = input (length workloads.now) sectors workloads.now outside.now edges.now counts.now visits.now constraints.now colouring.old moves.now rows.old verdicts.old work.old in left result colouring.new rows.new verdicts.new work.new ≡ ran i }
 {
     let first = engine::begin(
         sectors,
@@ -183,14 +181,12 @@ fn run_timed(
     prices: &mut [u64],
     queue: &mut [u64],
 ) -> Answer
-    ghost i: { Input }
-    requires work_value { input (length workloads.now) sectors workloads.now outside.now edges.now counts.now visits.now constraints.now colouring.old moves.now rows.old verdicts.old work.old ≡ i }
-    requires valid { Valid (given i) }
-    requires sorted { Sorted (plan_in i) shared.now limited.now }
-    requires setting { Setting (plan_in i) whole start.now near.now areas.now queue.old }
-    requires opening { Opening (plan_in i) colouring.old work.old prices.old }
-    requires priced { Priced (plan_in i) timed.now counts.now visits.now }
-    ensures { left result colouring.new rows.new verdicts.new work.new ≡ ran i }
+    requires valid { let i = input (length workloads.now) sectors workloads.now outside.now edges.now counts.now visits.now constraints.now colouring.old moves.now rows.old verdicts.old work.old in Valid (given i) }
+    requires sorted { let i = input (length workloads.now) sectors workloads.now outside.now edges.now counts.now visits.now constraints.now colouring.old moves.now rows.old verdicts.old work.old in Sorted (plan_in i) shared.now limited.now }
+    requires setting { let i = input (length workloads.now) sectors workloads.now outside.now edges.now counts.now visits.now constraints.now colouring.old moves.now rows.old verdicts.old work.old in Setting (plan_in i) whole start.now near.now areas.now queue.old }
+    requires opening { let i = input (length workloads.now) sectors workloads.now outside.now edges.now counts.now visits.now constraints.now colouring.old moves.now rows.old verdicts.old work.old in Opening (plan_in i) colouring.old work.old prices.old }
+    requires priced { let i = input (length workloads.now) sectors workloads.now outside.now edges.now counts.now visits.now constraints.now colouring.old moves.now rows.old verdicts.old work.old in Priced (plan_in i) timed.now counts.now visits.now }
+    ensures { let i = input (length workloads.now) sectors workloads.now outside.now edges.now counts.now visits.now constraints.now colouring.old moves.now rows.old verdicts.old work.old in left result colouring.new rows.new verdicts.new work.new ≡ ran i }
 {
     let mut visited = [0u64; (MOST_REGIONS + MOST_FLIGHTS) as usize + 1];
     let mut flights = [0u64; VISIT_LENGTH * (MOST_FLIGHTS * MOST_VISITS) as usize];
@@ -249,10 +245,8 @@ fn run(
     verdicts: &mut [u64],
     work: &mut [u64],
 ) -> Answer
-    ghost i: { Input }
-    requires work_value { input regions sectors workloads.now outside.now edges.now counts.now visits.now constraints.now colouring.old moves.now rows.old verdicts.old work.old ≡ i }
-    requires valid { Valid (given i) }
-    ensures { left result colouring.new rows.new verdicts.new work.new ≡ ran i }
+    requires { let i = input regions sectors workloads.now outside.now edges.now counts.now visits.now constraints.now colouring.old moves.now rows.old verdicts.old work.old in Valid (given i) }
+    ensures { let i = input regions sectors workloads.now outside.now edges.now counts.now visits.now constraints.now colouring.old moves.now rows.old verdicts.old work.old in left result colouring.new rows.new verdicts.new work.new ≡ ran i }
 {
     let mut start = [0u64; MOST_REGIONS as usize + 1];
     let mut near = [0u64; 2 * MOST_EDGES as usize];

@@ -13,24 +13,24 @@ pub gauge_all-requires : goal.gauge_all-requires
 gauge_all-requires c = record { few = c.requires.concluding.load; every = c.requires.concluding.paying.constraint; gauges_len = gauges_lent c.requires.concluding }
 
 pub slice_bounds-gauges-end-2 : goal.slice_bounds-gauges-end-2
-slice_bounds-gauges-end-2 c = bounded_room c.requires.concluding c.gauge_all.new.1.1.0 c.gauge_all.auto.gauges
+slice_bounds-gauges-end-2 c = bounded_room c.requires.concluding c.gauge_all.new.gauges c.gauge_all.auto.gauges
 
 pub slice_bounds-gauge_dwells-end : goal.slice_bounds-gauge_dwells-end
-slice_bounds-gauge_dwells-end c = sym (bounded_lent c.requires.concluding c.gauge_all.new.1.1.0 c.gauge_all.auto.gauges)
+slice_bounds-gauge_dwells-end c = sym (bounded_lent c.requires.concluding c.gauge_all.new.gauges c.gauge_all.auto.gauges)
 
 pub gauge_dwells-requires : goal.gauge_dwells-requires
-gauge_dwells-requires c = record { every = c.requires.concluding.paying.constraint; gauges_len = bounded_lent c.requires.concluding c.gauge_all.new.1.1.0 c.gauge_all.auto.gauges; flying = c.requires.concluding.flying }
+gauge_dwells-requires c = record { every = c.requires.concluding.paying.constraint; gauges_len = bounded_lent c.requires.concluding c.gauge_all.new.gauges c.gauge_all.auto.gauges; flying = c.requires.concluding.flying }
 
 pub slice_bounds-gauges-end-3 : goal.slice_bounds-gauges-end-3
-slice_bounds-gauges-end-3 c = all_room c.requires.concluding c.gauge_all.new.gauges c.gauge_all.auto.gauges c.gauge_dwells.new.1.1.1.1.0 c.gauge_dwells.auto.gauges
+slice_bounds-gauges-end-3 c = all_room c.requires.concluding c.gauge_all.new.gauges c.gauge_all.auto.gauges c.gauge_dwells.new.gauges c.gauge_dwells.auto.gauges
 
 pub slice_bounds-put_verdicts-end : goal.slice_bounds-put_verdicts-end
-slice_bounds-put_verdicts-end c = sym (all_lent c.requires.concluding c.gauge_all.new.gauges c.gauge_all.auto.gauges c.gauge_dwells.new.1.1.1.1.0 c.gauge_dwells.auto.gauges)
+slice_bounds-put_verdicts-end c = sym (all_lent c.requires.concluding c.gauge_all.new.gauges c.gauge_all.auto.gauges c.gauge_dwells.new.gauges c.gauge_dwells.auto.gauges)
 
 pub put_verdicts-requires : goal.put_verdicts-requires
-put_verdicts-requires c = record { small = concluding_small c.requires.concluding c.gauge_all.new.gauges c.gauge_all.auto.gauges c.gauge_dwells.new.1.1.1.1.0 c.gauge_dwells.auto.gauges; constraints_in_bounds = c.requires.constraints_in_bounds }
+put_verdicts-requires c = record { small = concluding_small c.requires.concluding c.gauge_all.new.gauges c.gauge_all.auto.gauges c.gauge_dwells.new.gauges c.gauge_dwells.auto.gauges; constraints_in_bounds = c.requires.constraints_in_bounds }
 
 pub returns : goal.returns
 returns c =
-    let by = concluding_verdicts c.requires.concluding c.gauge_all.new.gauges c.gauge_all.auto.gauges c.gauge_dwells.new.1.1.1.1.0 c.gauge_dwells.auto.gauges c.gauge_all.ensures c.gauge_dwells.ensures in
+    let by = concluding_verdicts c.requires.concluding c.gauge_all.new.gauges c.gauge_all.auto.gauges c.gauge_dwells.new.gauges c.gauge_dwells.auto.gauges c.gauge_all.ensures c.gauge_dwells.ensures in
     rw by at c.put_verdicts.ensures

@@ -1,7 +1,6 @@
 -- The first judgement readies the memory for the moves, which leave it as a judgement of the last colouring would; the verdicts and T are made of its figures.
 use native.Mathlib.Omega.{arith}
 use mathlib.Core.Path.{refl, ◌∙◌}
-use lib.ListN.{length-set}
 use Rattle.turns.specs.StateLaws.{setting_queue, opened_ready}
 use Rattle.turns.specs.Taken.{moved_ready}
 use Rattle.call.specs.Concluding.{ready_concluding}
@@ -9,12 +8,12 @@ use Rattle.call.specs.Promised.{ran_by}
 use Rattle.call.proofs.judge_all.Goals as goal
 
 pub begin-first-requires : goal.begin-first-requires
-begin-first-requires c = (c.requires.sorted, (c.requires.setting, (c.requires.opening, c.requires.flown.priced)))
+begin-first-requires c = record { sorted = c.requires.sorted; setting = c.requires.setting; opening = c.requires.opening; priced = c.requires.flown.priced }
 
 pub all_moves-last-requires : goal.all_moves-last-requires
 all_moves-last-requires c =
     let ready = opened_ready c.requires.valid.plan.limits c.requires.valid.plan.coloured c.begin-first.ensures c.requires.opening.room in
-    (c.requires.sorted, (c.requires.valid.moves_few, (setting_queue c.requires.setting c.begin-first.auto.queue, (ready, (c.requires.valid.rows_room, c.requires.flown)))))
+    record { sorted = c.requires.sorted; move_length_bound = c.requires.valid.moves_few; setting = setting_queue c.requires.setting c.begin-first.auto.queue; ready = ready; move_length_in_bounds = c.requires.valid.rows_room; flown = c.requires.flown }
 
 pub overflow_add-counts_end : goal.overflow_add-counts_end
 overflow_add-counts_end c = omega (arith, c.requires.valid.plan.limits.S, c.requires.valid.plan.limits.R)
@@ -31,19 +30,13 @@ slice_bounds-conclude-end c = omega (arith, c.all_moves-last.auto.work, c.begin-
 pub conclude-requires : goal.conclude-requires
 conclude-requires c =
     let ready = opened_ready c.requires.valid.plan.limits c.requires.valid.plan.coloured c.begin-first.ensures c.requires.opening.room in
-record { concluding = ready_concluding c.requires.valid.plan.limits (moved_ready c.args.moves.now c.requires.valid.plan.limits ready c.all_moves-last.ensures.opened) c.args.constraints.now refl c.requires.flown.priced.flying; constraints_in_bounds = c.requires.valid.verdicts_room }
+    record { concluding = ready_concluding c.requires.valid.plan.limits (moved_ready c.args.moves.now c.requires.valid.plan.limits ready c.all_moves-last.ensures.opened) c.args.constraints.now refl c.requires.flown.priced.flying; constraints_in_bounds = c.requires.valid.verdicts_room }
 
 pub offset_bounds-work-at : goal.offset_bounds-work-at
 offset_bounds-work-at c = omega (arith, c.requires.valid.plan.limits.S, c.requires.valid.plan.limits.R)
 
 pub bounds-work-at : goal.bounds-work-at
 bounds-work-at c = omega (arith, c.all_moves-last.auto.work, c.begin-first.auto.work, c.requires.valid.work_room)
-
-pub shape_of-colouring : goal.shape_of-colouring
-shape_of-colouring c = c.all_moves-last.auto.colouring ∙ c.begin-first.auto.colouring
-
-pub shape_of-work : goal.shape_of-work
-shape_of-work c = simp length-set (c.all_moves-last.auto.work ∙ c.begin-first.auto.work)
 
 pub returns : goal.returns
 returns c = ran_by _ c.requires.valid c.begin-first.ensures c.all_moves-last.ensures.opened c.all_moves-last.ensures.rows_after c.conclude.ensures

@@ -37,17 +37,17 @@ pub slice_bounds-judge_all-end-then-timed_end-eq0-2 : goal.slice_bounds-judge_al
 slice_bounds-judge_all-end-then-timed_end-eq0-2 c = sym (starts_length c.requires c.gather.new.start c.gather.auto.start)
 
 pub slice_bounds-judge_all-end-then-timed_end-eq0-5 : goal.slice_bounds-judge_all-end-then-timed_end-eq0-5
-slice_bounds-judge_all-end-then-timed_end-eq0-5 c = sym (length-take-le _ c.pick-timed_end.new.1.1.1.0 c.pick-timed_end.ensures.result_in_bounds)
+slice_bounds-judge_all-end-then-timed_end-eq0-5 c = sym (length-take-le _ c.pick-timed_end.new.picked c.pick-timed_end.ensures.result_in_bounds)
 
 pub slice_bounds-prices-end : goal.slice_bounds-prices-end
 slice_bounds-prices-end c = prices_room c.requires
 
 pub judge_all-requires : goal.judge_all-requires
 judge_all-requires c =
-    let none = length-take-le _ c.shared-then-timed_end-eq0-1.new.1.1.1.0 c.shared-then-timed_end-eq0-1.ensures.0 ∙ c.start-then-timed_end-eq0-1.true in
+    let none = length-take-le _ c.pick-timed_end.new.picked c.pick-timed_end.ensures.result_in_bounds ∙ c.if-timed_end-eq0.true in
     let setting = gathered_setting c.requires c.gather.new.start c.gather.auto.start c.sum_of-whole.ensures c.gather.ensures in
     rw c.requires.plan.limits.workloads
-    (c.requires, (picked_sorted c.requires c.pick-shared_end.ensures.picked_after c.pick-limited_end.ensures.picked_after, (setting, (lent_opening c.requires c.args.work.now refl, empty_flown c.requires none (picked_priced c.requires c.shared-then-timed_end-eq0-1.ensures.1)))))
+    (record { valid = c.requires; sorted = picked_sorted c.requires c.pick-shared_end.ensures.picked_after c.pick-limited_end.ensures.picked_after; setting = setting; opening = lent_opening c.requires c.args.work.now refl; flown = empty_flown c.requires none (picked_priced c.requires c.pick-timed_end.ensures.picked_after) })
 
 pub returns-then-timed_end-eq0 : goal.returns-then-timed_end-eq0
 returns-then-timed_end-eq0 c = rw c.requires.plan.limits.workloads at c.judge_all.ensures
@@ -65,7 +65,7 @@ pub slice_bounds-run_timed-end-3 : goal.slice_bounds-run_timed-end-3
 slice_bounds-run_timed-end-3 c = sym (starts_length c.requires c.gather.new.start c.gather.auto.start)
 
 pub slice_bounds-run_timed-end-6 : goal.slice_bounds-run_timed-end-6
-slice_bounds-run_timed-end-6 c = sym (length-take-le _ c.pick-timed_end.new.1.1.1.0 c.pick-timed_end.ensures.result_in_bounds)
+slice_bounds-run_timed-end-6 c = sym (length-take-le _ c.pick-timed_end.new.picked c.pick-timed_end.ensures.result_in_bounds)
 
 pub slice_bounds-prices-end-2 : goal.slice_bounds-prices-end-2
 slice_bounds-prices-end-2 c = prices_room c.requires
@@ -77,7 +77,7 @@ pub run_timed-requires : goal.run_timed-requires
 run_timed-requires c =
     let setting = gathered_setting c.requires c.gather.new.start c.gather.auto.start c.sum_of-whole.ensures c.gather.ensures in
     rw c.requires.plan.limits.workloads
-    (c.requires, (picked_sorted c.requires c.pick-shared_end.ensures.picked_after c.pick-limited_end.ensures.picked_after, (setting, (lent_opening c.requires c.args.work.now refl, picked_priced c.requires c.pick-timed_end.ensures.picked_after))))
+    (record { valid = c.requires; sorted = picked_sorted c.requires c.pick-shared_end.ensures.picked_after c.pick-limited_end.ensures.picked_after; setting = setting; opening = lent_opening c.requires c.args.work.now refl; priced = picked_priced c.requires c.pick-timed_end.ensures.picked_after })
 
 pub returns : goal.returns
 returns c = rw c.requires.plan.limits.workloads at c.run_timed.ensures

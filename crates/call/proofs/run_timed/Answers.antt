@@ -10,15 +10,15 @@ pub gather_visitors-requires : goal.gather_visitors-requires
 gather_visitors-requires c = record { flying = valid_flying c.requires.valid; regions_le_most_regions = c.requires.valid.plan.limits.R.high; starts_len = rows_lent c.requires.valid; visits_in_bounds = visits_fit c.requires.valid; firsts_len = refl }
 
 pub slice_bounds-visited-end-2 : goal.slice_bounds-visited-end-2
-slice_bounds-visited-end-2 c = rows_room c.requires.valid c.gather_visitors.new.1.1.1.0 c.gather_visitors.auto.starts
+slice_bounds-visited-end-2 c = rows_room c.requires.valid c.gather_visitors.new.starts c.gather_visitors.auto.starts
 
 pub slice_bounds-judge_all-end : goal.slice_bounds-judge_all-end
-slice_bounds-judge_all-end c = sym (rows-length c.requires.valid c.gather_visitors.new.1.1.1.0 c.gather_visitors.auto.starts)
+slice_bounds-judge_all-end c = sym (rows-length c.requires.valid c.gather_visitors.new.starts c.gather_visitors.auto.starts)
 
 pub judge_all-requires : goal.judge_all-requires
 judge_all-requires c =
-    let flown = gathered_flown c.requires.valid c.gather_visitors.new.1.1.1.0 c.gather_visitors.auto.starts c.requires.priced c.gather_visitors.ensures in
-    (c.requires.valid, (c.requires.sorted, (c.requires.setting, (c.requires.opening, flown))))
+    let flown = gathered_flown c.requires.valid c.gather_visitors.new.starts c.gather_visitors.auto.starts c.requires.priced c.gather_visitors.ensures in
+    record { valid = c.requires.valid; sorted = c.requires.sorted; setting = c.requires.setting; opening = c.requires.opening; flown = flown }
 
 pub returns : goal.returns
 returns c = c.judge_all.ensures
