@@ -8,33 +8,27 @@ read_workloads-first-requires c = record { has_blocks = c.requires.has_blocks; f
 
 pub read_outside-first-requires : goal.read_outside-first-requires
 read_outside-first-requires c =
-    let r = read-workloads-requires c κs in
-    record { has_blocks = (r.0.0, omega (arith, c.read_workloads-first.auto.held, r.0.1)); first_value = c.read_workloads-first.ensures.value }
+    record { has_blocks = (c.requires.has_blocks.0, omega (arith, c.read_workloads-first.auto.held, c.requires.has_blocks.1)); first_value = c.read_workloads-first.ensures.value }
 
 pub read_edges-first-requires : goal.read_edges-first-requires
 read_edges-first-requires c =
-    let r = read-outside-requires c κs in
-    record { has_blocks = (r.0.0, omega (arith, c.read_outside-first.auto.held, r.0.1)); first_value = c.read_outside-first.ensures.value }
+    record { has_blocks = (c.requires.has_blocks.0, omega (arith, c.read_workloads-first.auto.held, c.read_outside-first.auto.held, c.requires.has_blocks.1)); first_value = c.read_outside-first.ensures.value }
 
 pub read_constraints-first-requires : goal.read_constraints-first-requires
 read_constraints-first-requires c =
-    let r = read-edges-requires c κs in
-    record { has_blocks = (r.0.0, omega (arith, c.read_edges-first.auto.held, r.0.1)); first_value = c.read_edges-first.ensures.value }
+    record { has_blocks = (c.requires.has_blocks.0, omega (arith, c.read_workloads-first.auto.held, c.read_outside-first.auto.held, c.read_edges-first.auto.held, c.requires.has_blocks.1)); first_value = c.read_edges-first.ensures.value }
 
 pub read_colouring-first-requires : goal.read_colouring-first-requires
 read_colouring-first-requires c =
-    let r = read-constraints-requires c κs in
-    record { has_blocks = (r.0.0, omega (arith, c.read_constraints-first.auto.held, r.0.1)); first_value = c.read_constraints-first.ensures.value }
+    record { has_blocks = (c.requires.has_blocks.0, omega (arith, c.read_workloads-first.auto.held, c.read_outside-first.auto.held, c.read_edges-first.auto.held, c.read_constraints-first.auto.held, c.requires.has_blocks.1)); first_value = c.read_constraints-first.ensures.value }
 
 pub read_counts-first-requires : goal.read_counts-first-requires
 read_counts-first-requires c =
-    let r = read-colouring-requires c κs in
-    record { has_blocks = (r.0.0, omega (arith, c.read_colouring-first.auto.held, r.0.1)); first_value = c.read_colouring-first.ensures.value }
+    record { has_blocks = (c.requires.has_blocks.0, omega (arith, c.read_workloads-first.auto.held, c.read_outside-first.auto.held, c.read_edges-first.auto.held, c.read_constraints-first.auto.held, c.read_colouring-first.auto.held, c.requires.has_blocks.1)); first_value = c.read_colouring-first.ensures.value }
 
 pub read_visits-requires : goal.read_visits-requires
 read_visits-requires c =
-    let r = read-counts-requires c κs in
-    record { has_blocks = (r.0.0, omega (arith, c.read_counts-first.auto.held, r.0.1)); first_value = c.read_counts-first.ensures.value }
+    record { has_blocks = (c.requires.has_blocks.0, omega (arith, c.read_workloads-first.auto.held, c.read_outside-first.auto.held, c.read_edges-first.auto.held, c.read_constraints-first.auto.held, c.read_colouring-first.auto.held, c.read_counts-first.auto.held, c.requires.has_blocks.1)); first_value = c.read_counts-first.ensures.value }
 
 pub shape_of-held : goal.shape_of-held
 shape_of-held c = omega (arith, c.read_workloads-first.auto.held, c.read_outside-first.auto.held, c.read_edges-first.auto.held, c.read_constraints-first.auto.held, c.read_colouring-first.auto.held, c.read_counts-first.auto.held, c.read_visits.auto.held)

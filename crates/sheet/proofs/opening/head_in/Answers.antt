@@ -6,9 +6,6 @@ use Rattle.form.specs.FormLaws.{longest_head}
 use Rattle.sheet.specs.HeadLaws.{head_few, head_whole, head_one, head_front}
 use Rattle.sheet.proofs.opening.head_in.Goals as goal
 
-pub slice_bounds-read_section-end-2 : goal.slice_bounds-read_section-end-2
-slice_bounds-read_section-end-2 c = sym (length-take-le c.head_length-length.result longest_head (head_few c.args.form c.head_section.ensures c.head_length-length.ensures refl))
-
 pub read_section-requires : goal.read_section-requires
 read_section-requires c =
     let one = head_one c.args.form c.head_section.ensures c.head_length-length.ensures c.head_bytes.ensures in

@@ -11,19 +11,19 @@ kept-workloads : (c : After-write_workloads-first) → length c.write_workloads-
 kept-workloads c = c.write_workloads-first.auto.sheet ∙ c.write_head-first.auto.sheet
 
 kept-outside : (c : After-write_outside-first) → length c.write_outside-first.new.sheet ≡ length c.args.sheet.now
-kept-outside c = c.write_outside-first.auto.sheet ∙ kept-workloads c
+kept-outside c = c.write_outside-first.auto.sheet ∙ c.write_workloads-first.auto.sheet ∙ c.write_head-first.auto.sheet
 
 kept-edges : (c : After-write_edges-first) → length c.write_edges-first.new.sheet ≡ length c.args.sheet.now
-kept-edges c = c.write_edges-first.auto.sheet ∙ kept-outside c
+kept-edges c = c.write_edges-first.auto.sheet ∙ c.write_outside-first.auto.sheet ∙ c.write_workloads-first.auto.sheet ∙ c.write_head-first.auto.sheet
 
 kept-constraints : (c : After-write_constraints-first) → length c.write_constraints-first.new.sheet ≡ length c.args.sheet.now
-kept-constraints c = c.write_constraints-first.auto.sheet ∙ kept-edges c
+kept-constraints c = c.write_constraints-first.auto.sheet ∙ c.write_edges-first.auto.sheet ∙ c.write_outside-first.auto.sheet ∙ c.write_workloads-first.auto.sheet ∙ c.write_head-first.auto.sheet
 
 kept-colouring : (c : After-write_colouring-first) → length c.write_colouring-first.new.sheet ≡ length c.args.sheet.now
-kept-colouring c = c.write_colouring-first.auto.sheet ∙ kept-constraints c
+kept-colouring c = c.write_colouring-first.auto.sheet ∙ c.write_constraints-first.auto.sheet ∙ c.write_edges-first.auto.sheet ∙ c.write_outside-first.auto.sheet ∙ c.write_workloads-first.auto.sheet ∙ c.write_head-first.auto.sheet
 
 kept-counts : (c : After-write_counts-first) → length c.write_counts-first.new.sheet ≡ length c.args.sheet.now
-kept-counts c = c.write_counts-first.auto.sheet ∙ kept-colouring c
+kept-counts c = c.write_counts-first.auto.sheet ∙ c.write_colouring-first.auto.sheet ∙ c.write_constraints-first.auto.sheet ∙ c.write_edges-first.auto.sheet ∙ c.write_outside-first.auto.sheet ∙ c.write_workloads-first.auto.sheet ∙ c.write_head-first.auto.sheet
 
 pub write_head-first-requires : goal.write_head-first-requires
 write_head-first-requires c = c.requires.has_blocks

@@ -16,10 +16,10 @@ slice_bounds-numbers-end c = omega (arith, few_head c.args.form)
 
 pub write_section-requires : goal.write_section-requires
 write_section-requires c =
-    let r = rw (c.head_length-length.ensures, c.head_bytes.ensures, head_widths_lem c.args.form)
-    (blocks_asked c.args.form (laid_head c.args.form) c.letters.ensures c.head_section.ensures refl (head_numbers c.args.form c.args.head) c.requires (omega (arith, blocks_all c.args.form c.args.head)) (length_head c.args.form c.args.head)) in record { letters_len = r.0; section_in_bounds = r.1.0; widths_in_bounds = r.1.1 }
+    let r = blocks_asked c.args.form (laid_head c.args.form) c.letters.ensures c.head_section.ensures refl (head_numbers c.args.form c.args.head) c.requires (omega (arith, blocks_all c.args.form c.args.head)) (length_head c.args.form c.args.head) in
+    rw (c.head_length-length.ensures, c.head_bytes.ensures, head_widths_lem c.args.form) (record { letters_len = r.0; section_in_bounds = r.1.0; widths_in_bounds = r.1.1 })
 
 pub returns : goal.returns
 returns c =
     let r = blocks_written c.args.form (laid_head c.args.form) c.letters.ensures c.head_section.ensures refl (head_numbers c.args.form c.args.head) c.args.sheet.now
-    (rw (c.head_length-length.ensures, c.head_bytes.ensures, head_widths_lem c.args.form) at (c.write_section.ensures.value, c.write_section.ensures.sheet_after)) in record { value = r.0; sheet_after = r.1 }
+    (c.write_section.ensures.value, rw (c.head_length-length.ensures, c.head_bytes.ensures, head_widths_lem c.args.form) at c.write_section.ensures.sheet_after) in record { value = r.0; sheet_after = r.1 }
