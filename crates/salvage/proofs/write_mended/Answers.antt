@@ -15,13 +15,13 @@ pub mend-requires : goal.mend-requires
 mend-requires c = record { ends = c.requires.mendable.ends; colouring_len = regions_lent c.requires.mendable.opened c.requires.mendable.head ∙ sym (length_surviving c.requires.mendable) }
 
 pub slice_bounds-room-end-2 : goal.slice_bounds-room-end-2
-slice_bounds-room-end-2 c = back_room c.args.head.regions (zeros most_regions) (regions_room c.requires.mendable.opened c.requires.mendable.head) c.mend.new.1.1.0 c.mend.auto.colouring
+slice_bounds-room-end-2 c = back_room c.args.head.regions (zeros most_regions) (regions_room c.requires.mendable.opened c.requires.mendable.head) c.mend.new.colouring c.mend.auto.colouring
 
 pub slice_bounds-write_anew-end : goal.slice_bounds-write_anew-end
-slice_bounds-write_anew-end c = sym (back_length c.args.head.regions (zeros most_regions) (regions_room c.requires.mendable.opened c.requires.mendable.head) c.mend.new.1.1.0 c.mend.auto.colouring)
+slice_bounds-write_anew-end c = sym (back_length c.args.head.regions (zeros most_regions) (regions_room c.requires.mendable.opened c.requires.mendable.head) c.mend.new.colouring c.mend.auto.colouring)
 
 pub write_anew-requires : goal.write_anew-requires
-write_anew-requires c = record { opened = (c.requires.mendable.opened, c.requires.mendable.head); sheet_in_bounds = (c.requires.sheet_in_bounds, back_length c.args.head.regions (zeros most_regions) (regions_room c.requires.mendable.opened c.requires.mendable.head) c.mend.new.1.1.0 c.mend.auto.colouring) }
+write_anew-requires c = record { opened = (c.requires.mendable.opened, c.requires.mendable.head); sheet_in_bounds = (c.requires.sheet_in_bounds, back_length c.args.head.regions (zeros most_regions) (regions_room c.requires.mendable.opened c.requires.mendable.head) c.mend.new.colouring c.mend.auto.colouring) }
 
 pub returns : goal.returns
-returns c = written-mended c.requires.mendable c.args.salvaged.now c.mend.ensures (take_back c.args.head.regions (zeros most_regions) (regions_room c.requires.mendable.opened c.requires.mendable.head) c.mend.new.1.1.0 c.mend.auto.colouring) c.write_anew.ensures
+returns c = written-mended c.requires.mendable c.args.salvaged.now c.mend.ensures (take_back c.args.head.regions (zeros most_regions) (regions_room c.requires.mendable.opened c.requires.mendable.head) c.mend.new.colouring c.mend.auto.colouring) c.write_anew.ensures

@@ -28,7 +28,7 @@ pub read_lists-requires : goal.read_lists-requires
 read_lists-requires c = record { has_blocks = (opened_blocks (opens (goal.at.read_lists-requires c).Else-refusal-ne0) c.head_in-head.ensures, c.requires); head_value = c.head_in-head.ensures }
 
 pub contents_refusal-refusal-requires : goal.contents_refusal-refusal-requires
-contents_refusal-refusal-requires c = (bounded _ (opened_blocks (opens (goal.at.contents_refusal-refusal-requires c).Else-refusal-ne0) c.if-refusal-ne0.ensures).limits, omega (arith, c.read_lists-arg-1.auto.1.1.1.0, head.before.before.before.before.before.before.requires))
+contents_refusal-refusal-requires c = (bounded _ (opened_blocks (opens (goal.at.contents_refusal-refusal-requires c).Else-refusal-ne0) c.head_in-head.ensures).limits, omega (arith, c.read_lists.auto.held, c.requires))
 
 pub returns : goal.returns
-returns c = others-read (opens (goal.at.returns c).Else-refusal-ne0) c.if-refusal-ne0.ensures c.head_in-head.ensures c.struct_known-2-1.false c.read_lists-arg-1.ensures c.contents_refusal-refusal.ensures c.but_eight.ensures c.or_at.ensures
+returns c = others-read (opens (goal.at.returns c).Else-refusal-ne0) c.head_in-head.ensures c.other_fault-fault.ensures c.if-fault-ne0.false c.read_lists.ensures c.contents_refusal-refusal.ensures c.but_eight.ensures c.or_at.ensures

@@ -5,7 +5,7 @@ pub returns-then-not-sound : goal.returns-then-not-sound
 returns-then-not-sound c = rw c.if-not-sound.true
 
 pub returns-then-in_limits : goal.returns-then-in_limits
-returns-then-in_limits c = rw c.if-not-sound.false, ← c.in_limits.ensures, c.if-in_limits.true)
+returns-then-in_limits c = rw (c.if-not-sound.false, ← c.in_limits.ensures, c.if-in_limits.true)
 
 pub returns-else-in_limits : goal.returns-else-in_limits
-returns-else-in_limits c = rw c.if-not-sound.false, ← c.in_limits.ensures, c.if-in_limits.false)
+returns-else-in_limits c = rw (c.if-not-sound.false, ← c.in_limits.ensures, c.if-in_limits.false)
