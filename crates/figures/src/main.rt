@@ -5,11 +5,12 @@ ghost use Rattle.review.specs.SoFar.{Answers};
 
 use blocks::BLOCK_LENGTH;
 use form::MOST_BYTES;
-use libc::{STDERR_FILENO, STDIN_FILENO, STDOUT_FILENO};
+use input::read_full;
 use review::{Announced, COUNT_LENGTH, MOST_SHEETS, MOST_TEXT, Review, Reviewed, put_reviewed};
+use std::io::Read;
 
 // Takes sheet after sheet from the input, and none after the last that is read. No more bytes are asked for than a count or its sheet has.
-fn read_all() -> Reviewed
+fn read_all<R: Read>(reader: &mut R) -> Reviewed
     ensures { Answers result }
 {
     let mut sheet = [0u8; MOST_BYTES];
@@ -17,7 +18,7 @@ fn read_all() -> Reviewed
     let mut place = 1;
     while place <= MOST_SHEETS {
         let mut count = [0u8; COUNT_LENGTH];
-        let counted = io::read_full(STDIN_FILENO, &mut count);
+        let counted = read_full(reader, &mut count);
         let blocks = match Announced::by(&count[..counted]) {
             Announced::Nothing => return Reviewed { review, torn: 0 },
             Announced::Wrong => {
@@ -29,7 +30,7 @@ fn read_all() -> Reviewed
             Announced::Blocks(blocks) => blocks,
         };
         let size = BLOCK_LENGTH * blocks;
-        let read = io::read_full(STDIN_FILENO, &mut sheet[..size]);
+        let read = read_full(reader, &mut sheet[..size]);
         if read < size {
             return Reviewed {
                 review,
@@ -42,10 +43,10 @@ fn read_all() -> Reviewed
     Reviewed { review, torn: 0 }
 }
 
-fn main() {
+fn main(rt: HostRuntime) {
     let mut text = [0u8; MOST_TEXT];
-    let bytes = put_reviewed(read_all(), &mut text);
-    if !io::write_all(STDOUT_FILENO, &text[..bytes]) {
-        io::write_all(STDERR_FILENO, b"figures: the text could not be written\n");
+    let bytes = put_reviewed(read_all(&mut rt.stdin()), &mut text);
+    if rt.write_all(&text[..bytes]).is_err() {
+        let _ = eprintln!(rt; "figures: the text could not be written");
     }
 }

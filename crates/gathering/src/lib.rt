@@ -16,7 +16,7 @@ fn read_all<'a>(reader: Reader<'a>, held: &mut [u64]) -> Refusal
     holding::hold_either(reader.sheet, held)
 }
 
-// Holds all numbers of a sheet, through a reader, or answers what it is refused for; with plain parameters, so that a caller needs no proof by hand.
+// Holds all numbers of a sheet, through a reader, or answers what it is refused for; with plain parameters, for a caller that keeps none.
 pub fn read(sheet: &[u8], held: &mut [u64]) -> Refusal
     requires { most_held ≤ length held.old }
     ensures { Holds (form_in sheet.now) sheet.now result held.new }

@@ -10,7 +10,7 @@ use Rattle.judgement.specs.Promise.{Printed, TextPromise, unique_text}
 abbrev pub most_bytes : ℕ
 most_bytes = most_blocks Second * block_length
 
--- what reading until the buffer is full or the input ends leaves, as `io::read_full` says of itself where no read fails
+-- what reading until the buffer is full or the input ends leaves, as `read_full` says of itself where no read fails
 pub record Read (input buffer : List ℕ) (read : ℕ) : Type 0 where
   -- all of the input was read, or as much of it as the buffer has room for
   pub many : read ≡ min (length buffer) (length input)

@@ -1,15 +1,32 @@
-// The text that the program `verdicts` prints for an input, from what was read of it into a buffer.
+// The text that the program `verdicts` prints for an input, from what was read of it into a buffer; and how a buffer is filled, by each program that has an input.
 #![tactic(auto)]
 
-ghost use Rattle.std.specs.Prelude.{◌<◌, length};
-ghost use Rattle.io.specs.Counts.{IsPrefixLen};
+ghost use Rattle.std.specs.Prelude.{◌<◌, length, take};
+ghost use Rattle.std.specs.Counts.{IsPrefixLen};
+ghost use Rattle.std.specs.Io.KnownBytes.{Consumes};
 ghost use Rattle.judgement.specs.Promise.{left};
 ghost use Rattle.input.specs.Promise.{most_bytes, Promise};
 
 use form::MOST_BYTES;
+use std::io::Read;
 
 // A byte more than the longest sheet has, so that what is longer is not taken for one.
 pub const MOST_INPUT: usize = MOST_BYTES + 1;
+
+// Reads until the buffer is full, the input ends or a read fails, and answers how many bytes it put at the buffer's start. They are the next that the reader had, and it has no longer.
+pub fn read_full<R: Read>(reader: &mut R, buffer: &mut [u8]) -> usize
+    ensures prefix_len { IsPrefixLen result buffer.new }
+    ensures consumed { Consumes (R.remaining reader.old) (R.remaining reader.new) (take result buffer.new) }
+{
+    let mut done = 0;
+    while done < buffer.len() {
+        match reader.read(&mut buffer[done..]) {
+            Ok(0) | Err(_) => return done,
+            Ok(n) => done += n,
+        }
+    }
+    done
+}
 
 // Makes the text of an input from a buffer that has room for more than the longest sheet.
 fn put_front(buffer: &[u8], read: usize, text: &mut [u8]) -> usize

@@ -2,7 +2,7 @@
 #![tactic(auto)]
 
 ghost use Rattle.std.specs.Prelude.{◌≤◌, ◌<◌, length};
-ghost use Rattle.io.specs.Counts.{IsPrefixLen};
+ghost use Rattle.std.specs.Counts.{IsPrefixLen};
 ghost use Rattle.meaning.specs.Moves.{verdict_length};
 ghost use Rattle.report.specs.Text.{most_text};
 ghost use Rattle.judgement.specs.Promise.{verdict_at, Promise, TextPromise, left};

@@ -1,5 +1,5 @@
-// Reading goes through a reader, which keeps the lent sheet and its place in it. The borrow checker covers no function over a struct that holds a
-// slice, so each is proved by hand and leaves the work to one that takes the slice and the number.
+// Reading goes through a reader, which keeps the lent sheet and its place in it. Each function leaves the work to one that takes the slice and the
+// number.
 #![tactic(auto)]
 
 ghost use Rattle.std.specs.Prelude.{◌≡◌};
@@ -9,7 +9,7 @@ ghost use Rattle.reader.specs.Kept.{Keeps};
 use sheet::showing;
 
 // A lent sheet, and the number of a block of it, from 0.
-#[derive(Drop)]
+#[derive(Clone, Copy)]
 pub struct Reader<'a> {
     pub sheet: &'a [u8],
     pub place: usize,
@@ -64,7 +64,7 @@ pub fn part<'a>(reader: Reader<'a>) -> &'a [u8]
     showing::block(reader.sheet, reader.place)
 }
 
-// Shows the used payload of a block, through a reader; with plain parameters, so that a caller needs no proof by hand.
+// Shows the used payload of a block, through a reader; with plain parameters, for a caller that keeps none.
 pub fn show(sheet: &[u8], number: usize) -> &[u8]
     ensures { Shows sheet.entry number result }
 {

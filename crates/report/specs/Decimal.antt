@@ -9,6 +9,8 @@ use mathlib.Core.List.{List, [], ◌∷◌, ◌++◌}
 use Rattle.std.proofs.Math.Bool.{true, false}
 use borrow.Author.Tests.{ltb-true, ltb-false, lt-ltb}
 use Rattle.std.proofs.Math.Dec.{ltb}
+use Rattle.std.specs.Fmt.{decimal as printed}
+use Rattle.std.proofs.lemmas.Fmt.{decimal_digit, decimal_step}
 use Rattle.lists.specs.Sums.{Every}
 use Rattle.lists.specs.SumLaws.{every_append}
 use Rattle.report.specs.Digits.{last_digits, IsDigitCount}
@@ -122,3 +124,10 @@ decimal_fewest = decimal-each (λ n s. (k : ℕ) → IsDigitCount 10 1 n k → l
         let fewer : IsDigitCount 10 1 (n / 10) (suc k) =
         (omega arith, omega (arith, f.1, pow-succ' 10 (suc k)), λ l. rw e (omega (arith, low n k f, pow-succ' 10 k))) in
         rw (lt-ltb (n % 10) 10 (omega arith)) (ap (λ t. t ++ (digit (n % 10) ∷ [])) (p (suc k) fewer))
+
+-- below 2 ^ 64 it is what std prints of the number
+pub decimal_printed : (n : ℕ) → n < 2 ^ 64 → printed n ≡ decimal n
+decimal_printed = decimal-each (λ n s. n < 2 ^ 64 → printed n ≡ s) (λ n h l. decimal_digit n h) more
+  where
+    more : (n : ℕ) (s : List ℕ) → 10 ≤ n → (n / 10 < 2 ^ 64 → printed (n / 10) ≡ s) → n < 2 ^ 64 → printed n ≡ s ++ (digit (n % 10) ∷ [])
+    more n s h p l = decimal_step n h l ∙ ap (λ t. t ++ (digit (n % 10) ∷ [])) (p (omega arith))

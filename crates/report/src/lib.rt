@@ -2,13 +2,14 @@
 #![tactic(auto)]
 
 ghost use Rattle.std.specs.Prelude.{◌≡◌, [], ◌∷◌, ◌++◌, ◌+◌, ◌*◌, ◌/◌, ◌≤◌, ◌<◌, length, drop};
-ghost use Rattle.io.specs.Counts.{IsPrefixLen};
+ghost use Rattle.std.specs.Counts.{IsPrefixLen};
 ghost use Rattle.meaning.specs.Plan.{constraint_length, most_constraints};
 ghost use Rattle.meaning.specs.Moves.{verdict_length};
 ghost use Rattle.report.specs.Decimal.{decimal};
 ghost use Rattle.report.specs.Placed.{Placed};
 ghost use Rattle.report.specs.Text.{number, line, line_at, total_line, verdict_text, refused_text, number_lines, most_number, most_refused, most_text};
 
+use itoa::Buffer;
 use packing::copy_to;
 use terms::limits::{CONSTRAINT_LENGTH, MOST_CONSTRAINTS, VERDICT_LENGTH};
 
@@ -58,9 +59,8 @@ fn put_decimal(text: &mut [u8], at: usize, n: u64) -> usize
     requires { at + length (decimal n) ≤ length text.old }
     ensures { Placed text.old at (decimal n) text.new result }
 {
-    let mut digits = [0u8; MOST_DIGITS];
-    let count = io::decimal(n, &mut digits);
-    put_word(text, at, &digits[..count])
+    let mut digits = Buffer::new();
+    put_word(text, at, digits.format(n).as_bytes())
 }
 
 // Puts a number down in decimal and a byte after it, and answers where that ends.

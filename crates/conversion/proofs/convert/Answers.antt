@@ -7,7 +7,7 @@ use Rattle.conversion.proofs.convert.Goals as goal
 use Rattle.conversion.proofs.convert.Goals.{After-all_blocks-bytes}
 
 -- the sheet is held, and as a sheet of the new form takes so many blocks
-held : (c : After-all_blocks-bytes) → Measured c.args.from c.args.to c.args.sheet.now c.hold-refusal.new.1.1.0 c.head_in-head.result c.all_blocks-bytes.result
+held : (c : After-all_blocks-bytes) → Measured c.args.from c.args.to c.args.sheet.now c.hold-refusal.new.held c.head_in-head.result c.all_blocks-bytes.result
 held c = measured c.hold-refusal.ensures c.if-refusal-ne0.false c.head_in-head.ensures c.args.to c.carried_head.ensures c.all_blocks-bytes.ensures
 
 pub returns-then-refusal-ne0 : goal.returns-then-refusal-ne0

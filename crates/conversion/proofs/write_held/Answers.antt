@@ -19,37 +19,33 @@ pub workloads_in-requires : goal.workloads_in-requires
 workloads_in-requires c = (within (goal.at.workloads_in-requires c).Start, c.requires.1)
 
 pub slice_bounds-write_contents-end : goal.slice_bounds-write_contents-end
-slice_bounds-write_contents-end c =
-    let s = c.before.before.before.before.before.before.before in
-    sym (length_front s.args.to c.shared_slice_known-1.result.now (ap length c.shared_slice_known-1.ensures ∙ (counted_held s.args.head s.args.held.now (within s) s.requires.1).outside) c.outside_in-outside.ensures)
+slice_bounds-write_contents-end c = sym (length_front c.args.to c.outside_in-outside.result.now (ap length c.outside_in-outside.ensures ∙ (counted_held c.args.head c.args.held.now (within (goal.at.slice_bounds-write_contents-end c).Start) c.requires.1).outside) c.outside_count-stored.ensures)
 
 pub edges_in-requires : goal.edges_in-requires
-edges_in-requires c = let s = c.before.before.before.before.before.before.before in (within s, s.requires.1)
+edges_in-requires c = (within (goal.at.edges_in-requires c).Start, c.requires.1)
 
 pub counts_in-requires : goal.counts_in-requires
-counts_in-requires c = let s = c.before.before.before.before.before.before.before.before in (within s, s.requires.1)
+counts_in-requires c = (within (goal.at.counts_in-requires c).Start, c.requires.1)
 
 pub visits_in-requires : goal.visits_in-requires
-visits_in-requires c = let s = c.before.before.before.before.before.before.before.before.before in (within s, s.requires.1)
+visits_in-requires c = (within (goal.at.visits_in-requires c).Start, c.requires.1)
 
 pub constraints_in-requires : goal.constraints_in-requires
-constraints_in-requires c = let s = c.before.before.before.before.before.before.before.before.before.before in (within s, s.requires.1)
+constraints_in-requires c = (within (goal.at.constraints_in-requires c).Start, c.requires.1)
 
 pub colouring_in-requires : goal.colouring_in-requires
-colouring_in-requires c = let s = c.before.before.before.before.before.before.before.before.before.before.before in (within s, s.requires.1)
+colouring_in-requires c = (within (goal.at.colouring_in-requires c).Start, c.requires.1)
 
 pub write_contents-requires : goal.write_contents-requires
 write_contents-requires c =
-    let s = c.before.before.before.before.before.before.before.before.before.before.before.before in
-    let k = contents_held s.args.head s.args.held.now in record { has_blocks = s.requires.0; so_many = held_many s.args.to s.args.head s.args.held.now (within s) s.requires.1
-          (same_lists k c.write_contents-arg-1.ensures c.shared_slice_known-1.ensures c.edges_in.ensures c.counts_in.ensures c.visits_in.ensures c.constraints_in.ensures c.colouring_in.ensures) c.outside_in-outside.ensures }
+    let k = contents_held c.args.head c.args.held.now in record { has_blocks = c.requires.0; so_many = held_many c.args.to c.args.head c.args.held.now (within (goal.at.write_contents-requires c).Start) c.requires.1
+          (same_lists k c.workloads_in.ensures c.outside_in-outside.ensures c.edges_in.ensures c.counts_in.ensures c.visits_in.ensures c.constraints_in.ensures c.colouring_in.ensures) c.outside_count-stored.ensures }
 
 pub returns : goal.returns
 returns c =
-    let s = c.before.before.before.before.before.before.before.before.before.before.before.before.before.before.before in
-    let k = contents_held s.args.head s.args.held.now in
-    held_sheet s.args.to s.args.head s.args.held.now (within s) s.requires.1
-    (same_lists k c.write_contents-arg-1.ensures c.shared_slice_known-1.ensures c.edges_in.ensures c.counts_in.ensures c.visits_in.ensures c.constraints_in.ensures c.colouring_in.ensures) c.outside_in-outside.ensures
-    s.args.converted.now
-    {out = c.write_contents.new.1.0}
+    let k = contents_held c.args.head c.args.held.now in
+    held_sheet c.args.to c.args.head c.args.held.now (within (goal.at.returns c).Start) c.requires.1
+    (same_lists k c.workloads_in.ensures c.outside_in-outside.ensures c.edges_in.ensures c.counts_in.ensures c.visits_in.ensures c.constraints_in.ensures c.colouring_in.ensures) c.outside_count-stored.ensures
+    c.args.converted.now
+    {out = c.write_contents.new.sheet}
     c.write_contents.ensures

@@ -16,60 +16,60 @@ use Rattle.figures.proofs.read_all.Goals.{After-by, Else-read-size, In-Blocks}
 
 -- the bytes of the count, and how many blocks they announce
 abbrev bytes : (c : After-by) → List ℕ
-bytes c = take c.read_full-counted.result c.read_full-counted.new.buf
+bytes g c = take c.read_full-counted.result c.read_full-counted.new.buf
 
 abbrev blocks : (c : In-Blocks) → ℕ
-blocks c = c.in-Blocks.blocks
+blocks g c = c.in-Blocks.blocks
 
 -- the count is right
 counted : (c : In-Blocks) → Counted (bytes c) (blocks c)
-counted c = let few : length (bytes c) ≤ count_length = omega (arith, length-take-le c.read_full-counted.result c.read_full-counted.new.buf c.read_full-counted.ensures.0, c.read_full-counted.auto.buf) in
+counted g c = let few : length (bytes c) ≤ count_length = omega (arith, length-take-le c.read_full-counted.result c.read_full-counted.new.buffer c.read_full-counted.ensures.prefix_len.0, c.read_full-counted.auto.buffer) in
     blocks_counted (bytes c) (blocks c) few (sym c.by.ensures ∙ c.in-Blocks.is)
 
 -- the buffer keeps its length
-kept : (c : Else-read-size) → length (c.read_full-read.new.1.0 ++ drop (block_length * blocks c) c.loop-place.sheet) ≡ most_blocks Second * block_length
-kept c = length_front c.loop-place.sheet c.read_full-read.new.1.0 (block_length * blocks c) c.read_full-read.auto.buf ∙ c.loop-place.invariant.1.1
+kept : (c : Else-read-size) → length (c.read_full-read.new.buffer ++ drop (block_length * blocks c) c.loop-place.sheet) ≡ most_blocks Second * block_length
+kept g c = length_front c.loop-place.sheet c.read_full-read.new.buffer (block_length * blocks c) c.read_full-read.auto.buffer ∙ c.loop-place.invariant.1.1
 
 pub loop-place-init : goal.loop-place-init
-loop-place-init c = rw c.none-review.ensures (so_far_none, (omega arith, length-replicate {A = ℕ} (most_blocks Second * block_length) 0))
+loop-place-init g c = rw c.none-review.ensures (so_far_none, (omega arith, length-replicate {A = ℕ} (most_blocks Second * block_length) 0))
 
 pub returns-in-Nothing : goal.returns-in-Nothing
-returns-in-Nothing c = ends_well c.loop-place.invariant.0 (bytes (goal.at.returns-in-Nothing c).After-by) (sym c.by.ensures ∙ c.in-Nothing.is)
+returns-in-Nothing g c = ends_well c.loop-place.invariant.0 (bytes (goal.at.returns-in-Nothing g c).After-by) (sym c.by.ensures ∙ c.in-Nothing.is)
 
 pub returns-in-Wrong : goal.returns-in-Wrong
-returns-in-Wrong c = ends_count c.loop-place.invariant.0 c.loop-place-test.true (bytes (goal.at.returns-in-Wrong c).After-by) (sym c.by.ensures ∙ c.in-Wrong.is)
+returns-in-Wrong g c = ends_count c.loop-place.invariant.0 c.loop-place-test.true (bytes (goal.at.returns-in-Wrong g c).After-by) (sym c.by.ensures ∙ c.in-Wrong.is)
 
 pub overflow_mul-size : goal.overflow_mul-size
-overflow_mul-size c = omega (arith, (counted (goal.at.overflow_mul-size c).In-Blocks).few)
+overflow_mul-size g c = omega (arith, (counted (goal.at.overflow_mul-size g c).In-Blocks).few)
 
 pub slice_bounds-sheet-end : goal.slice_bounds-sheet-end
-slice_bounds-sheet-end c = omega (arith, (counted (goal.at.slice_bounds-sheet-end c).In-Blocks).few, c.loop-place.invariant.1.1)
+slice_bounds-sheet-end g c = omega (arith, (counted (goal.at.slice_bounds-sheet-end g c).In-Blocks).few, c.loop-place.invariant.1.1)
 
 pub slice_bounds-read_full-end-in-loop-place : goal.slice_bounds-read_full-end-in-loop-place
-slice_bounds-read_full-end-in-loop-place c = sym (length-take-le _ c.loop-place.sheet (array-borrow-prefix-sheet (goal.at.slice_bounds-read_full-end-in-loop-place c).In-Blocks))
+slice_bounds-read_full-end-in-loop-place g c = sym (length-take-le _ c.loop-place.sheet (array-borrow-prefix-sheet (goal.at.slice_bounds-read_full-end-in-loop-place g c).In-Blocks))
 
 pub returns-then-read-size : goal.returns-then-read-size
-returns-then-read-size c =
-    let few : length (take c.read_full-read.result c.read_full-read.new.1.0) < block_length * blocks (goal.at.returns-then-read-size c).In-Blocks = omega (arith, length-take-le c.read_full-read.result c.read_full-read.new.1.0 c.read_full-read.ensures.0, c.if-read-size.true) in
-    ends_cut c.loop-place.invariant.0 c.loop-place-test.true (counted (goal.at.returns-then-read-size c).In-Blocks) (take c.read_full-read.result c.read_full-read.new.1.0) few
+returns-then-read-size g c =
+    let few : length (take c.read_full-read.result c.read_full-read.new.buffer) < block_length * blocks (goal.at.returns-then-read-size g c).In-Blocks = omega (arith, length-take-le c.read_full-read.result c.read_full-read.new.buffer c.read_full-read.ensures.prefix_len.0, c.if-read-size.true) in
+    ends_cut c.loop-place.invariant.0 c.loop-place-test.true (counted (goal.at.returns-then-read-size g c).In-Blocks) (take c.read_full-read.result c.read_full-read.new.buffer) few
 
 pub slice_bounds-sheet-end-in-loop-place : goal.slice_bounds-sheet-end-in-loop-place
-slice_bounds-sheet-end-in-loop-place c = omega (arith, kept (goal.at.slice_bounds-sheet-end-in-loop-place c).Else-read-size, (counted (goal.at.slice_bounds-sheet-end-in-loop-place c).In-Blocks).few)
+slice_bounds-sheet-end-in-loop-place g c = omega (arith, kept (goal.at.slice_bounds-sheet-end-in-loop-place g c).Else-read-size, (counted (goal.at.slice_bounds-sheet-end-in-loop-place g c).In-Blocks).few)
 
 pub slice_bounds-with_sheet-end : goal.slice_bounds-with_sheet-end
-slice_bounds-with_sheet-end c = sym (length-take-le _ _ (array-share-prefix-sheet (goal.at.slice_bounds-with_sheet-end c).Else-read-size))
+slice_bounds-with_sheet-end g c = sym (length-take-le _ _ (array-share-prefix-sheet (goal.at.slice_bounds-with_sheet-end g c).Else-read-size))
 
 pub with_sheet-review-requires : goal.with_sheet-review-requires
-with_sheet-review-requires c = (so_far_taken c.loop-place.invariant.0, c.loop-place-test.true)
+with_sheet-review-requires g c = (so_far_taken c.loop-place.invariant.0, c.loop-place-test.true)
 
 pub loop-place-preserved : goal.loop-place-preserved
-loop-place-preserved c =
-    let size = block_length * blocks (goal.at.loop-place-preserved c).In-Blocks in
-    let all : length c.read_full-read.new.1.0 ≡ size = c.read_full-read.auto.buf ∙ length-take-le size c.loop-place.sheet (array-borrow-prefix-sheet (goal.at.loop-place-preserved c).In-Blocks) in
-    let read : length (take c.read_full-read.result c.read_full-read.new.1.0) ≡ size = omega (arith, length-take-le c.read_full-read.result c.read_full-read.new.1.0 c.read_full-read.ensures.0, c.if-read-size.false) in
-    let same = take_at c.read_full-read.new.1.0 (drop size c.loop-place.sheet) size all ∙ sym (take_all c.read_full-read.result c.read_full-read.new.1.0 (omega (arith, c.if-read-size.false))) in
-    let more = so_far_next c.loop-place.invariant.0 c.loop-place-test.true (counted (goal.at.loop-place-preserved c).In-Blocks) (take c.read_full-read.result c.read_full-read.new.1.0) read in
-    (rw (c.with_sheet-review.ensures, same) more, (omega (arith, c.loop-place-test.true), kept (goal.at.loop-place-preserved c).Else-read-size))
+loop-place-preserved g c =
+    let size = block_length * blocks (goal.at.loop-place-preserved g c).In-Blocks in
+    let all : length c.read_full-read.new.buffer ≡ size = c.read_full-read.auto.buffer ∙ length-take-le size c.loop-place.sheet (array-borrow-prefix-sheet (goal.at.loop-place-preserved g c).In-Blocks) in
+    let read : length (take c.read_full-read.result c.read_full-read.new.buffer) ≡ size = omega (arith, length-take-le c.read_full-read.result c.read_full-read.new.buffer c.read_full-read.ensures.prefix_len.0, c.if-read-size.false) in
+    let same = take_at c.read_full-read.new.buffer (drop size c.loop-place.sheet) size all ∙ sym (take_all c.read_full-read.result c.read_full-read.new.buffer (omega (arith, c.if-read-size.false))) in
+    let more = so_far_next c.loop-place.invariant.0 c.loop-place-test.true (counted (goal.at.loop-place-preserved g c).In-Blocks) (take c.read_full-read.result c.read_full-read.new.buffer) read in
+    (rw (c.with_sheet-review.ensures, same) more, (omega (arith, c.loop-place-test.true), kept (goal.at.loop-place-preserved g c).Else-read-size))
 
 pub returns : goal.returns
-returns c = ends_full c.loop-place.invariant.0 (omega (arith, c.loop-place-test.false))
+returns g c = ends_full c.loop-place.invariant.0 (omega (arith, c.loop-place-test.false))

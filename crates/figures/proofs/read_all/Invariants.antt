@@ -10,7 +10,7 @@ use Rattle.review.specs.SoFar.{SoFar}
 use Rattle.figures.proofs.read_all.Given as goal
 
 abbrev pub invariant-loop-place : goal.invariant-loop-place
-invariant-loop-place l = SoFar l.place l.review × ((l.place ≤ suc most_sheets) × (length l.sheet ≡ most_blocks Second * block_length))
+invariant-loop-place g l = SoFar l.place l.review × ((l.place ≤ suc most_sheets) × (length l.sheet ≡ most_blocks Second * block_length))
 
 abbrev pub decreases-loop-place : goal.decreases-loop-place
-decreases-loop-place l = suc most_sheets - l.place
+decreases-loop-place g l = suc most_sheets - l.place

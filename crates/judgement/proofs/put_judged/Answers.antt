@@ -15,11 +15,11 @@ few : (c : After-judge_sheet-judged) → c.judge_sheet-judged.result.constraints
 few c = few_left c.judge_sheet-judged.ensures
 
 -- their numbers are within the list
-constraints-room : (c : After-judge_sheet-judged) → constraint_length * c.judge_sheet-judged.result.constraints ≤ length c.judge_sheet-judged.new.1.0
+constraints-room : (c : After-judge_sheet-judged) → constraint_length * c.judge_sheet-judged.result.constraints ≤ length c.judge_sheet-judged.new.constraints
 constraints-room c = omega (arith, few c, c.judge_sheet-judged.auto.constraints)
 
 -- and so are the verdicts on them
-verdicts_room : (c : After-judge_sheet-judged) → verdict_length * c.judge_sheet-judged.result.constraints ≤ length c.judge_sheet-judged.new.1.1.0
+verdicts_room : (c : After-judge_sheet-judged) → verdict_length * c.judge_sheet-judged.result.constraints ≤ length c.judge_sheet-judged.new.verdicts
 verdicts_room c = omega (arith, few c, c.judge_sheet-judged.auto.verdicts)
 
 pub returns-then-judged-ne0 : goal.returns-then-judged-ne0

@@ -6,6 +6,3 @@ use Rattle.judgement.proofs.put_text.Goals as goal
 
 pub returns-then-text-lt-MOST_TEXT : goal.returns-then-text-lt-MOST_TEXT
 returns-then-text-lt-MOST_TEXT c = record { prefix_len = (omega arith, refl); text_promise = promise_short _ _ c.if-text-lt-MOST_TEXT.true }
-
-pub returns : goal.returns
-returns c = let r = TODO_c.put-judged.ensures in record { prefix_len = r.0; text_promise = r.1 }

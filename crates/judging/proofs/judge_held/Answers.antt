@@ -18,9 +18,9 @@ pub copy-requires : goal.copy-requires
 copy-requires c = omega (arith, ap length c.colouring_in.ensures, (counted (goal.at.copy-requires c).Start).colouring, c.requires.bounded.0.regions)
 
 pub slice_bounds-judge-end : goal.slice_bounds-judge-end
-slice_bounds-judge-end c = sym (length-take-le c.args.head.regions c.copy.new.1.0 (omega (arith, c.copy.auto.to, c.requires.bounded.0.regions)))
+slice_bounds-judge-end c = sym (length-take-le c.args.head.regions c.copy.new.to (omega (arith, c.copy.auto.to, c.requires.bounded.0.regions)))
 
 pub returns : goal.returns
 returns c =
-    let colouring = front_of _ c.colouring-2-1.ensures c.colouring-1.ensures (counted (goal.at.returns c).Start).colouring in
-    judges_lists (contents_held c.shared_slice_known-1.head c.shared_slice_known-1.held.now) _ _ _ c.shared_slice_known-1.1.0 c.shared_slice_known-1.1.1 (omega arith) c.outside_in.ensures c.edges_in.ensures c.counts_in.ensures c.visits_in.ensures c.constraints_in.ensures c.colouring-3-1.ensures colouring c.judge-answer.ensures
+    let colouring = front_of _ c.copy.ensures c.colouring_in.ensures (counted (goal.at.returns c).Start).colouring in
+    judges_lists (contents_held c.args.head c.args.held.now) _ _ _ c.requires.held_value c.requires.most_constraints_in_bounds (omega arith) c.workloads_in.ensures c.outside_in.ensures c.edges_in.ensures c.counts_in.ensures c.visits_in.ensures c.constraints_in.ensures colouring c.judge-answer.ensures

@@ -32,7 +32,7 @@ constraints_in-requires c = (few (goal.at.constraints_in-requires c).After-head_
 
 pub copy-requires : goal.copy-requires
 copy-requires c =
-    let n = counted_held c.head_in-head.result c.read-refusal.new.1.0 (few (goal.at.copy-requires c).After-head_in-head) (omega (arith, c.read-refusal.auto.held)) in
+    let n = counted_held c.head_in-head.result c.read-refusal.new.held (few (goal.at.copy-requires c).After-head_in-head) (omega (arith, c.read-refusal.auto.held)) in
     omega (arith, ap length c.constraints_in.ensures, n.constraints, (few (goal.at.copy-requires c).After-head_in-head).constraints, c.requires.most_constraints_in_bounds)
 
 pub judge_held-total-requires : goal.judge_held-total-requires

@@ -1,16 +1,15 @@
--- The digits that are counted are the number in decimal, and are put down as a word.
-use mathlib.Core.Path.{◌≡◌, ◌∙◌}
-use lib.ListN.{take}
-use Rattle.report.specs.Decimal.{decimal, decimal_fewest}
+-- What is printed is the number in decimal, and is put down as a word.
+use Rattle.std.proofs.Common.{◌≡◌, ◌∙◌}
+use Rattle.report.specs.Decimal.{decimal, decimal_printed}
 use Rattle.report.proofs.put_decimal.Goals as goal
-use Rattle.report.proofs.put_decimal.Goals.{After-decimal-count}
+use Rattle.report.proofs.put_decimal.Goals.{After-as_bytes}
 
--- the digits that are counted are n in decimal
-counted : (c : After-decimal-count) → take c.decimal-count.result c.decimal-count.new.1.0 ≡ decimal c.args.n
-counted c = c.decimal-count.ensures.1.1 ∙ decimal_fewest _ _ c.decimal-count.ensures.1.0
+-- the bytes that are printed are n in decimal
+bytes : (c : After-as_bytes) → c.as_bytes.result.now ≡ decimal c.args.n
+bytes c = c.as_bytes.ensures.value ∙ c.format.ensures.text ∙ decimal_printed c.args.n c.ranges.n.fits
 
 pub put_word-requires : goal.put_word-requires
-put_word-requires c = rw (counted (goal.at.put_word-requires c).After-decimal-count) c.requires
+put_word-requires c = rw (bytes (goal.at.put_word-requires c).After-as_bytes) c.requires
 
 pub returns : goal.returns
-returns c = rw (counted (goal.at.returns c).After-decimal-count) at c.put_word.ensures
+returns c = rw (bytes (goal.at.returns c).After-as_bytes) at c.put_word.ensures

@@ -9,13 +9,13 @@ use Rattle.report.specs.Placed.{placed-none, placed-length, placed_then}
 use Rattle.report.specs.Text.{number_lines, most_number}
 use Rattle.report.specs.TextLaws.{number-lines-next, number-lines-front, number-lines-length}
 use Rattle.report.proofs.put_lines.Goals as goal
+use Rattle.report.proofs.put_lines.Goals.{At-loop-k}
 
 -- the lines of the first k numbers have room
-front : (c : tie.At-loop invariant-loop decreases-loop) (k : ℕ)
-    → let numbers = c.before.before.before.args.numbers.now in length (number_lines (take k numbers)) ≤ most_number * length numbers
+front : (c : At-loop-k) (k : ℕ) → length (number_lines (take k c.args.numbers.now)) ≤ most_number * length c.args.numbers.now
 front c k =
-    let numbers = c.before.before.before.args.numbers.now in
-    le_trans (number-lines-front numbers k) (number-lines-length numbers (record { each = λ i. (c.before.shared-slice-known.given i).fits }))
+    let numbers = c.args.numbers.now in
+    le_trans (number-lines-front numbers k) (number-lines-length numbers (record { each = λ i. (c.type_inv.numbers i).fits }))
 
 pub loop-k-init : goal.loop-k-init
 unfolding number_lines

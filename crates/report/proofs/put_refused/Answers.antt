@@ -13,11 +13,11 @@ fits c = refused-length _ _ c.ranges.code.fits c.ranges.place.fits
 
 pub put_number-past_code-requires : goal.put_number-past_code-requires
 unfolding refused_text
-put_number-past_code-requires c = omega (arith, c.slice_known-1, simp length-append at (fits (goal.at.put_number-past_code-requires c).Start))
+put_number-past_code-requires c = omega (arith, c.requires, simp length-append at (fits (goal.at.put_number-past_code-requires c).Start))
 
 pub put_number-requires : goal.put_number-requires
 unfolding refused_text
-put_number-requires c = omega (arith, c.slice_known-1, simp length-append at (fits (goal.at.put_number-requires c).Start))
+put_number-requires c = omega (arith, c.requires, simp length-append at (fits (goal.at.put_number-requires c).Start))
 
 pub returns : goal.returns
 unfolding refused_text

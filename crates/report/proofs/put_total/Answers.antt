@@ -7,11 +7,11 @@ use Rattle.report.proofs.put_total.Goals as goal
 
 pub put_word-past_word-requires : goal.put_word-past_word-requires
 unfolding total_line
-put_word-past_word-requires c = omega (arith, simp length-append at c.slice_known-1)
+put_word-past_word-requires c = omega (arith, simp length-append at c.requires)
 
 pub put_number-requires : goal.put_number-requires
 unfolding total_line
-put_number-requires c = omega (arith, simp length-append at c.slice_known-1)
+put_number-requires c = omega (arith, simp length-append at c.requires)
 
 pub returns : goal.returns
 unfolding total_line

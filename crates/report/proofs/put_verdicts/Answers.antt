@@ -12,7 +12,7 @@ use Rattle.report.proofs.put_verdicts.Goals as goal
 use Rattle.report.proofs.put_verdicts.Goals.{After-loop-k, At-loop-k}
 
 words : (c : At-loop-k) → Words c.args.constraints.now × Words c.args.verdicts.now
-words c = (record { each = λ i. (c.shared_slice_known-1.given i).fits }, record { each = λ i. (c.shared_slice_known-2-1.given i).fits })
+words c = (record { each = λ i. (c.type_inv.constraints i).fits }, record { each = λ i. (c.type_inv.verdicts i).fits })
 
 -- past the last constraint all lines stand there
 all_placed : (c : After-loop-k) → Placed c.args.text.now 0 (lines c.args.constraints.now c.args.verdicts.now (length c.args.constraints.now / constraint_length)) c.loop-k.text c.loop-k.end
@@ -50,4 +50,4 @@ pub returns : goal.returns
 unfolding verdict_text
 returns c =
     let p = placed_then (all_placed (goal.at.returns c).After-loop-k) c.put_total.ensures in
-record { prefix_len = placed-counts p; text_after = placed_start p }
+    record { prefix_len = placed-counts p; text_after = placed_start p }

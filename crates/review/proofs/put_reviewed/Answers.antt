@@ -7,7 +7,9 @@ use Rattle.review.proofs.put_reviewed.Goals as goal
 
 pub returns-then-torn-eq0 : goal.returns-then-torn-eq0
 unfolding review_text
-returns-then-torn-eq0 c = let r = rw (eq-eqb _ _ c.if-torn-eq0.true, append-nil) (placed-counts c.put_figures-end.ensures.placed, placed_start c.put_figures-end.ensures.placed) in record { prefix_len = r.0; text_after = r.1 }
+returns-then-torn-eq0 c =
+    let p = c.put_figures-end.ensures.placed in
+    record { prefix_len = placed-counts p; text_after = rw (eq-eqb _ _ c.if-torn-eq0.true, append-nil) (placed_start p) }
 
 pub put_refused-requires : goal.put_refused-requires
 put_refused-requires c = c.put_figures-end.ensures.most_refused_in_bounds
@@ -16,4 +18,4 @@ pub returns : goal.returns
 unfolding review_text
 returns c =
     let p = placed_then c.put_figures-end.ensures.placed c.put_refused.ensures in
-let r = rw (ne_eqb _ _ c.if-torn-eq0.false) (placed-counts p, placed_start p) in record { prefix_len = r.0; text_after = r.1 }
+    record { prefix_len = placed-counts p; text_after = rw (ne_eqb _ _ c.if-torn-eq0.false) (placed_start p) }

@@ -12,11 +12,11 @@ use Rattle.review.proofs.Review.with_sheet.Goals as goal
 use Rattle.review.proofs.Review.with_sheet.Goals.{After-judge_sheet-judged}
 
 -- the constraints are within the list
-constraints-room : (c : After-judge_sheet-judged) → constraint_length * c.judge_sheet-judged.result.constraints ≤ length c.judge_sheet-judged.new.1.0
+constraints-room : (c : After-judge_sheet-judged) → constraint_length * c.judge_sheet-judged.result.constraints ≤ length c.judge_sheet-judged.new.constraints
 constraints-room c = omega (arith, few_left c.judge_sheet-judged.ensures, c.judge_sheet-judged.auto.constraints)
 
 -- and so are the verdicts on them
-verdicts_room : (c : After-judge_sheet-judged) → verdict_length * c.judge_sheet-judged.result.constraints ≤ length c.judge_sheet-judged.new.1.1.0
+verdicts_room : (c : After-judge_sheet-judged) → verdict_length * c.judge_sheet-judged.result.constraints ≤ length c.judge_sheet-judged.new.verdicts
 verdicts_room c = omega (arith, few_left c.judge_sheet-judged.ensures, c.judge_sheet-judged.auto.verdicts)
 
 pub with_refused-requires : goal.with_refused-requires

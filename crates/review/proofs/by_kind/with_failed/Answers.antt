@@ -3,6 +3,7 @@ use Prim.Native.Nat.{◌+◌, ◌-◌}
 use native.Mathlib.Omega.{arith}
 use mathlib.Core.Path.{◌≡◌}
 use lib.ListN.{length-set}
+use Rattle.std.proofs.Common.{rules}
 use Rattle.lists.specs.SumLaws.{get_or_bound}
 use Rattle.lists.specs.ListLaws.{drop-up_to}
 use Rattle.lists.specs.Loops.{mapped_start, mapped_turn, mapped_end}
@@ -12,7 +13,7 @@ use Rattle.review.specs.Bounds.{failing_most}
 use Rattle.review.proofs.by_kind.with_failed.Goals as goal
 
 pub loop-k-init : goal.loop-k-init
-loop-k-init c = (c.well-formed.0.1.0.1, mapped_start c.well-formed.0.1.0.1)
+loop-k-init c = (search rules, mapped_start (search rules))
 
 pub failing-requires : goal.failing-requires
 failing-requires c = c.requires.constraint_length_in_bounds
@@ -22,7 +23,7 @@ overflow_add-more c =
     omega (
       arith,
       c.failing.ensures,
-      get_or_bound c.args.t1 c.loop-k.k c.requires.every,
+      get_or_bound c.args.failed c.loop-k.k c.requires.every,
       failing_most (c.loop-k.k + 1) c.args.constraints.now c.args.verdicts.now,
       c.requires.constraint_length_len_bound,
     )

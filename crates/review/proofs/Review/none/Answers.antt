@@ -1,0 +1,8 @@
+-- Over no sheet each figure is 0.
+use Rattle.std.proofs.Common.{refl}
+use Rattle.review.specs.Review.{extreme_from, review_of}
+use Rattle.review.proofs.Review.none.Goals as goal
+
+pub returns : goal.returns
+unfolding review_of extreme_from
+returns c = refl
