@@ -9,10 +9,11 @@ use Rattle.meaning.specs.Plan.{Plan, Limits, Coloured}
 use Rattle.meaning.specs.Kinds.{ncc, load, border, counts, loads, leads_to}
 use Rattle.meaning.specs.Moves.{recolour}
 use Rattle.meaning.specs.Faces.{lift, area_to}
-use Rattle.meaning.specs.Bounds.{most_border, border_bound}
+use Rattle.meaning.specs.Bounds.{most_border}
+use Rattle.meaning.proofs.BoundLaws.{border_bound}
 use Rattle.meaning.specs.Prices.{most_dwell_total, limited, timed, price, sector_price, prices, visitors_price, dwell_total}
-use Rattle.meaning.specs.PriceLaws.{dwell_recolour, dwell_total_bound, cost_bound}
-use Rattle.meaning.specs.Recoloured.{coloured-recolour, load_rest, ncc_rest, border-recolour}
+use Rattle.meaning.proofs.PriceLaws.{dwell_recolour, dwell_total_bound, cost_bound}
+use Rattle.meaning.proofs.Recoloured.{coloured-recolour, load_rest, ncc_rest, border-recolour}
 use Rattle.judge.specs.Small.{edges_small, area_bound}
 use Rattle.change.specs.declared.Pair.{Pair}
 use Rattle.change.specs.declared.Sides.{Sides}

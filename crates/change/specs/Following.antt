@@ -7,10 +7,11 @@ use Rattle.lists.specs.Sums.{sum}
 use Rattle.terms.specs.Distance.{gap}
 use Rattle.meaning.specs.Plan.{Plan, Limits, Coloured, most_regions, most_sectors}
 use Rattle.meaning.specs.Kinds.{whole, border, counts, loads, deviation, total}
-use Rattle.meaning.specs.Components.{counts-length, counts-at, loads-length, loads-at, ncc-sum}
-use Rattle.meaning.specs.Bounds.{most_load, ncc_bound, load_bound, whole_bound, border_bound}
+use Rattle.meaning.proofs.Components.{counts-length, counts-at, loads-length, loads-at, ncc-sum}
+use Rattle.meaning.specs.Bounds.{most_load}
+use Rattle.meaning.proofs.BoundLaws.{ncc_bound, load_bound, whole_bound, border_bound}
 use Rattle.meaning.specs.Prices.{shared, prices, most_sector_price}
-use Rattle.meaning.specs.PriceLaws.{prices-total, prices-length, prices-at, sector-price_bound, prices_few, dwell_total_bound}
+use Rattle.meaning.proofs.PriceLaws.{prices-total, prices-length, prices-at, sector-price_bound, prices_few, dwell_total_bound}
 use Rattle.judge.specs.Figures.{figures_of, total_by}
 use Rattle.judge.specs.FigureLaws.{total_by_lem}
 use Rattle.judge.specs.Small.{SmallFigures, most_gap, tallies_small, figures_small}

@@ -8,10 +8,10 @@ use Rattle.lists.specs.ListLaws.{length-list_of}
 use Rattle.meaning.specs.Plan.{Plan, Limits, Coloured, constraint_length, constraint_at, constraints_of}
 use Rattle.meaning.specs.Joined.{labels}
 use Rattle.meaning.specs.Kinds.{counts, loads, border, total}
-use Rattle.meaning.specs.Labels.{plan_labels}
-use Rattle.meaning.specs.Components.{counts-length, loads-length}
+use Rattle.meaning.proofs.Labels.{plan_labels}
+use Rattle.meaning.proofs.Components.{counts-length, loads-length}
 use Rattle.meaning.specs.Moves.{move_length, row_length, verdict_length, rows, verdicts, work}
-use Rattle.meaning.specs.MoveLaws.{length-rows, length_moves, length-verdicts}
+use Rattle.meaning.proofs.MoveLaws.{length-rows, length_moves, length-verdicts}
 use Rattle.refusals.specs.Table.{call_refusal}
 use Rattle.refusals.specs.Valid.{Valid, valid}
 use Rattle.call.specs.Promise.{Input, Outcome, Promise, given, plan_in, moves_in, last_in, refused_by, ran, outcome, is_outcome}

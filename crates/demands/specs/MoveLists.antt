@@ -14,7 +14,7 @@ use Rattle.terms.specs.Moves.{move_of}
 use Rattle.terms.specs.declared.Move.{Move}
 use Rattle.meaning.specs.Plan.{Plan}
 use Rattle.meaning.specs.Moves.{move_length, row_length, move_at, moves_of, next, Row, row, cells, rows, last}
-use Rattle.meaning.specs.MoveLaws.{length-rows, length_moves}
+use Rattle.meaning.proofs.MoveLaws.{length-rows, length_moves}
 
 -- ---- definitions
 

@@ -12,10 +12,10 @@ use Rattle.meaning.specs.Joined.{Joined, labels}
 use Rattle.meaning.specs.Kinds.{ncc}
 use Rattle.meaning.specs.Moves.{move_length, recolour, swap, moves_of, next, last}
 use Rattle.meaning.specs.Paths.{limits_ends, neighbours_far}
-use Rattle.meaning.specs.Labels.{plan_labels, label_joined}
+use Rattle.meaning.proofs.Labels.{plan_labels, label_joined}
 use Rattle.meaning.specs.Faces.{lift, shares, Shares, shares-true, shares_make, beside, pieces}
-use Rattle.meaning.specs.Put.{Put, put-recolour, put-own, in0, in1, joined_up, joined-put}
-use Rattle.meaning.specs.Recoloured.{coloured-recolour, label_rest, ncc_come, ncc_go, ncc_rest}
+use Rattle.meaning.proofs.Put.{Put, put-recolour, put-own, in0, in1, joined_up, joined-put}
+use Rattle.meaning.proofs.Recoloured.{coloured-recolour, label_rest, ncc_come, ncc_go, ncc_rest}
 use Rattle.call.specs.Promise.{Input, Outcome, Promise, plan_in}
 use Rattle.turns.specs.Decoded.{move_within}
 use Rattle.turns.specs.Taken.{move_count, coloured-last}

@@ -10,7 +10,7 @@ use Rattle.terms.specs.declared.Move.{Move}
 use Rattle.terms.specs.declared.Move.TheVariants.{Recolour, Exchange, Ask, Refused}
 use Rattle.meaning.specs.Plan.{Plan}
 use Rattle.meaning.specs.Moves.{move_length, row_length, move_at, moves_of, next, row, cells, rows, last}
-use Rattle.meaning.specs.MoveLaws.{length-rows, length_moves, length-cells}
+use Rattle.meaning.proofs.MoveLaws.{length-rows, length_moves, length-cells}
 use Rattle.call.specs.Promise.{Input, Outcome, Promise, plan_in}
 use Rattle.turns.specs.Taken.{move_count}
 use Rattle.demands.specs.MoveLists.{moves_at, moves_append, whole_before, length_before, last-append, rows_append}

@@ -9,8 +9,8 @@ use Rattle.meaning.specs.Plan.{Plan, most_kind}
 use Rattle.meaning.specs.Kinds.{total}
 use Rattle.meaning.specs.Moves.{moves_of, verdicts}
 use Rattle.meaning.specs.Names.{Renaming, renamed, renamed_move, renamed_second, renamed_moves}
-use Rattle.meaning.specs.NameLaws.{named_move}
-use Rattle.meaning.specs.Renamed.{labels-renamed, ncc-renamed, load-renamed, border-renamed, total-renamed, verdicts-renamed, rows-renamed, last-renamed}
+use Rattle.meaning.proofs.NameLaws.{named_move}
+use Rattle.meaning.proofs.Renamed.{labels-renamed, ncc-renamed, load-renamed, border-renamed, total-renamed, verdicts-renamed, rows-renamed, last-renamed}
 use Rattle.refusals.specs.declared.Refusal.{Refusal}
 use Rattle.refusals.specs.Table.{call_table, call_refusal}
 use Rattle.refusals.specs.Renamed.{plan_renamed, room_renamed}

@@ -5,7 +5,7 @@ use Rattle.std.proofs.Common.{sym, ap, ◌∙◌}
 use borrow.Author.Tests.{ne_eqb}
 use Rattle.lists.specs.Tests.{cond_ap}
 use Rattle.meaning.specs.Names.{Renaming}
-use Rattle.meaning.specs.Renamed.{total-renamed, verdicts-renamed}
+use Rattle.meaning.proofs.Renamed.{total-renamed, verdicts-renamed}
 use Rattle.refusals.specs.Table.{refusal}
 use Rattle.form.specs.declared.Form.{Form}
 use Rattle.form.specs.declared.Form.TheVariants.{First, Second}

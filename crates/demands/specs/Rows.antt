@@ -14,7 +14,7 @@ use Rattle.meaning.specs.Plan.{Plan}
 use Rattle.meaning.specs.Joined.{labels}
 use Rattle.meaning.specs.Kinds.{total, region_violation}
 use Rattle.meaning.specs.Moves.{move_length, move_at, moves_of, recolour, swap, made, next, delta, differing, relabelled, Row, row, last}
-use Rattle.meaning.specs.MoveLaws.{recolour-own, exchange-alike, made-total, not_made, row-still}
+use Rattle.meaning.proofs.MoveLaws.{recolour-own, exchange-alike, made-total, not_made, row-still}
 use Rattle.call.specs.Promise.{Input, Outcome, Promise, plan_in, ran}
 use Rattle.turns.specs.Taken.{move_count}
 use Rattle.demands.specs.MoveLists.{row_at, moves_next, row-at, last-append}

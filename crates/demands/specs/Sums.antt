@@ -8,7 +8,7 @@ use Rattle.terms.specs.declared.Move.{Move}
 use Rattle.meaning.specs.Plan.{Plan}
 use Rattle.meaning.specs.Kinds.{total}
 use Rattle.meaning.specs.Moves.{made, next, moves_of, delta, row, cells, rows, last, verdicts}
-use Rattle.meaning.specs.MoveLaws.{made-total, not_made}
+use Rattle.meaning.proofs.MoveLaws.{made-total, not_made}
 use Rattle.call.specs.Promise.{Input, Outcome, Promise, plan_in, moves_in, ran}
 use Rattle.demands.specs.MoveLists.{Whole, whole, moves_cons}
 use Rattle.demands.specs.MoveNumbers.{is_made, made-numbers}

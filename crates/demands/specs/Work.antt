@@ -10,8 +10,8 @@ use Rattle.meaning.specs.Plan.{Plan}
 use Rattle.meaning.specs.Joined.{labels}
 use Rattle.meaning.specs.Kinds.{ncc, load, counts, loads, border}
 use Rattle.meaning.specs.Moves.{work}
-use Rattle.meaning.specs.Labels.{plan_labels}
-use Rattle.meaning.specs.Components.{counts-length, counts-at, loads-length, loads-at}
+use Rattle.meaning.proofs.Labels.{plan_labels}
+use Rattle.meaning.proofs.Components.{counts-length, counts-at, loads-length, loads-at}
 use Rattle.call.specs.Promise.{Input, Outcome, Promise, plan_in}
 use Rattle.demands.specs.Calls.{work_written, call_valid, coloured-left, work-left}
 

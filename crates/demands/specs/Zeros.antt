@@ -10,7 +10,7 @@ use Rattle.lists.specs.Tests.{by_eqb}
 use Rattle.meaning.specs.Plan.{Plan, Limits, constraint_length, constraint_at, constraints_of}
 use Rattle.meaning.specs.Kinds.{holds, total}
 use Rattle.meaning.specs.Moves.{verdict_length}
-use Rattle.meaning.specs.Holds.{SayHolds, total-zero, verdicts_hold}
+use Rattle.meaning.proofs.Holds.{SayHolds, total-zero, verdicts_hold}
 use Rattle.call.specs.Promise.{Input, Outcome, Promise, plan_in}
 use Rattle.form.specs.Form.{form_in, contents_by}
 use Rattle.form.specs.ContentsLaws.{valid_contents}

@@ -6,9 +6,9 @@ use Rattle.lists.specs.Sums.{In, at}
 use Rattle.terms.specs.Distance.{gap}
 use Rattle.meaning.specs.Plan.{Plan, most_sectors}
 use Rattle.meaning.specs.Kinds.{ncc, load, whole, area_of, leads_to, border_of, region_violation}
-use Rattle.meaning.specs.Bounds.{load_bound, border_of_bound, region_bound}
+use Rattle.meaning.proofs.BoundLaws.{load_bound, border_of_bound, region_bound}
 use Rattle.meaning.specs.Prices.{timed, prices, visitors_price}
-use Rattle.meaning.specs.PriceLaws.{prices-length, prices-at, region_parts, shared_parts}
+use Rattle.meaning.proofs.PriceLaws.{prices-length, prices-at, region_parts, shared_parts}
 use Rattle.kinds.specs.declared.Weights.{Weights}
 use Rattle.kinds.specs.Paid.{weights_of}
 use Rattle.neighbours.specs.Table.{Table}

@@ -4,7 +4,7 @@ use Rattle.std.specs.Prelude.{ℕ, ◌-◌, ◌<◌, ◌^◌, ◌≡◌, pos, �
 use Rattle.std.proofs.Common.{arith, ◌∙◌, SFits, to_z, of_z, to_z-of_z}
 use Rattle.std.specs.Int.{w64}
 use Rattle.std.proofs.Math.Facts.{to_z_pos}
-use Rattle.meaning.specs.Deltas.{sub_mag}
+use Rattle.meaning.proofs.Deltas.{sub_mag}
 
 module _ (a b : ℕ) (ha : a < 2 ^ 63) (hb : b < 2 ^ 63) where
   -- the difference fits

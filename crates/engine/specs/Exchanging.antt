@@ -6,7 +6,7 @@ use Rattle.lists.specs.Sums.{In, at}
 use Rattle.meaning.specs.Plan.{Plan}
 use Rattle.meaning.specs.Kinds.{total}
 use Rattle.meaning.specs.Moves.{swap}
-use Rattle.meaning.specs.MoveLaws.{exchange-alike}
+use Rattle.meaning.proofs.MoveLaws.{exchange-alike}
 use Rattle.engine.specs.declared.Standing.{Standing}
 use Rattle.engine.specs.State.{Setting, Ready}
 use Rattle.engine.specs.Memory.{Kept}

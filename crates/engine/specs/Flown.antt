@@ -5,7 +5,7 @@ use Rattle.std.proofs.Common.{sym, ◌∙◌}
 use Rattle.meaning.specs.Plan.{Plan, Coloured, flights_of, constraints_of}
 use Rattle.meaning.specs.Prices.{flights_price, visitors_price, dwell_total}
 use Rattle.meaning.specs.Prices as meaning
-use Rattle.meaning.specs.PriceLaws.{dwell_total_lem}
+use Rattle.meaning.proofs.PriceLaws.{dwell_total_lem}
 use Rattle.kinds.specs.Constraints.{Paying}
 use Rattle.flights.specs.Flying.{Flying}
 use Rattle.visitors.specs.Visitors.{Visitors, Pricing}

@@ -10,10 +10,10 @@ use Rattle.lists.specs.Sums.{In, at}
 use Rattle.meaning.specs.Plan.{Plan, Limits, Coloured}
 use Rattle.meaning.specs.Joined.{labels}
 use Rattle.meaning.specs.Kinds.{counts, loads}
-use Rattle.meaning.specs.Labels.{plan_labels}
-use Rattle.meaning.specs.Components.{counts-length, counts-at, loads-length, loads-at}
+use Rattle.meaning.proofs.Labels.{plan_labels}
+use Rattle.meaning.proofs.Components.{counts-length, counts-at, loads-length, loads-at}
 use Rattle.meaning.specs.Prices.{prices}
-use Rattle.meaning.specs.PriceLaws.{prices-length, prices-at}
+use Rattle.meaning.proofs.PriceLaws.{prices-length, prices-at}
 use Rattle.change.specs.declared.Pair.{Pair}
 use Rattle.change.specs.declared.Sides.{Sides}
 use Rattle.change.specs.Changed.{pair_of, sides_of}

@@ -11,10 +11,10 @@ use Rattle.lists.specs.Few.{Few}
 use Rattle.meaning.specs.Plan.{Plan, Limits, Coloured, constraints_of, most_regions, most_sectors, most_area}
 use Rattle.meaning.specs.Joined.{labels, leads}
 use Rattle.meaning.specs.Kinds.{whole, crosses, area_of, border, counts, loads, total}
-use Rattle.meaning.specs.Components.{loads-length}
+use Rattle.meaning.proofs.Components.{loads-length}
 use Rattle.meaning.specs.Bounds.{most_load}
 use Rattle.meaning.specs.Prices.{price, prices, limit_total, dwell_total}
-use Rattle.meaning.specs.PriceLaws.{prices-total, limit_total_bound}
+use Rattle.meaning.proofs.PriceLaws.{prices-total, limit_total_bound}
 use Rattle.kinds.specs.Constraints.{Paying}
 use Rattle.neighbours.specs.Net.{Net, table_net}
 use Rattle.judge.specs.declared.Figures.{Figures}

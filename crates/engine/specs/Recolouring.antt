@@ -6,7 +6,7 @@ use Rattle.lists.specs.Sums.{In, at}
 use Rattle.meaning.specs.Plan.{Plan}
 use Rattle.meaning.specs.Kinds.{total}
 use Rattle.meaning.specs.Moves.{recolour}
-use Rattle.meaning.specs.MoveLaws.{recolour-own}
+use Rattle.meaning.proofs.MoveLaws.{recolour-own}
 use Rattle.engine.specs.declared.Standing.{Standing}
 use Rattle.engine.specs.State.{Setting, Ready}
 use Rattle.engine.specs.Memory.{Kept}

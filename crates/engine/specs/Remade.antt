@@ -4,7 +4,7 @@ use Rattle.std.specs.Prelude.{ℕ, ◌≡◌, refl, List, ◌++◌, drop}
 use Rattle.std.proofs.Common.{sym}
 use Rattle.meaning.specs.Plan.{Plan, Limits}
 use Rattle.meaning.specs.Moves.{relabelled}
-use Rattle.meaning.specs.MoveLaws.{relabelled-none}
+use Rattle.meaning.proofs.MoveLaws.{relabelled-none}
 use Rattle.meaning.specs.Prices.{prices}
 use Rattle.engine.specs.declared.Standing.{Standing}
 use Rattle.engine.specs.declared.Made.{Made}

@@ -10,7 +10,7 @@ use Rattle.terms.specs.declared.Move.TheVariants.{Recolour, Exchange, Ask, Refus
 use Rattle.meaning.specs.Plan.{Edge, Plan, most_moves}
 use Rattle.meaning.specs.Paths.{limits_ends}
 use Rattle.meaning.specs.Moves.{swap, next}
-use Rattle.meaning.specs.MoveLaws.{exchange-alike}
+use Rattle.meaning.proofs.MoveLaws.{exchange-alike}
 use Rattle.search.specs.Confined.{Confined, confined_none, confined_recolour, confined_swap}
 use Rattle.search.specs.Remembered.{Remembered, remembered_later, remembered_raise}
 use Rattle.engine.specs.declared.Standing.{Standing}

@@ -8,7 +8,7 @@ use Rattle.std.proofs.Math.ListN.{drop}
 use Rattle.meaning.specs.Plan.{Plan}
 use Rattle.meaning.specs.Joined.{labels}
 use Rattle.meaning.specs.Kinds.{counts, loads}
-use Rattle.meaning.specs.Components.{counts-length, loads-length}
+use Rattle.meaning.proofs.Components.{counts-length, loads-length}
 use Rattle.change.specs.declared.Change.{Change}
 use Rattle.change.specs.Changed.{changed_counts, changed_loads, changed_prices}
 use Rattle.engine.specs.declared.Standing.{Standing}

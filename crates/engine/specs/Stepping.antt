@@ -11,9 +11,9 @@ use Rattle.terms.specs.declared.Move.TheVariants.{Recolour, Exchange, Ask, Refus
 use Rattle.meaning.specs.Plan.{Plan}
 use Rattle.meaning.specs.Kinds.{total, region_violation}
 use Rattle.meaning.specs.Moves.{recolour, swap, made, next, change, delta}
-use Rattle.meaning.specs.MoveLaws.{relabelled-none}
-use Rattle.meaning.specs.Bounds.{total_bound, region_bound}
-use Rattle.meaning.specs.Deltas.{delta_reads}
+use Rattle.meaning.proofs.MoveLaws.{relabelled-none}
+use Rattle.meaning.proofs.BoundLaws.{total_bound, region_bound}
+use Rattle.meaning.proofs.Deltas.{delta_reads}
 use Rattle.engine.specs.declared.Standing.{Standing}
 use Rattle.engine.specs.declared.Made.{Made}
 use Rattle.engine.specs.State.{Setting, Ready, Within, Answered}

@@ -9,8 +9,8 @@ use Rattle.lists.specs.Places.{at_set_other}
 use Rattle.meaning.specs.Plan.{Plan, Coloured}
 use Rattle.meaning.specs.Joined.{labels}
 use Rattle.meaning.specs.Moves.{recolour, swap, differing, relabelled}
-use Rattle.meaning.specs.MoveLaws.{recolour-own}
-use Rattle.meaning.specs.Recoloured.{coloured-recolour}
+use Rattle.meaning.proofs.MoveLaws.{recolour-own}
+use Rattle.meaning.proofs.Recoloured.{coloured-recolour}
 use Rattle.change.specs.declared.Sides.{Sides}
 use Rattle.change.specs.declared.Change.{Change}
 use Rattle.change.specs.Shift.{turned_round, in_turn}

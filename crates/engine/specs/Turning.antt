@@ -8,10 +8,11 @@ use Rattle.meaning.specs.Joined.{labels}
 use Rattle.meaning.specs.Kinds.{ncc, load}
 use Rattle.meaning.specs.Moves.{recolour, differing, relabelled}
 use Rattle.meaning.specs.Faces.{lift}
-use Rattle.meaning.specs.Bounds.{most_load, ncc_bound, load_bound}
+use Rattle.meaning.specs.Bounds.{most_load}
+use Rattle.meaning.proofs.BoundLaws.{ncc_bound, load_bound}
 use Rattle.meaning.specs.Prices.{limited, price, prices}
-use Rattle.meaning.specs.PriceLaws.{cost_bound}
-use Rattle.meaning.specs.Recoloured.{load_come, load_go, ncc_come, ncc_go}
+use Rattle.meaning.proofs.PriceLaws.{cost_bound}
+use Rattle.meaning.proofs.Recoloured.{load_come, load_go, ncc_come, ncc_go}
 use Rattle.kinds.specs.Constraints.{Paying}
 use Rattle.neighbours.specs.Table.{Table}
 use Rattle.neighbours.specs.Net.{table_net}

@@ -10,9 +10,9 @@ use Rattle.lists.specs.Tests.{by_eqb}
 use Rattle.lists.specs.ListLaws.{length-list_of, drop-list_of, list_of_every}
 use Rattle.meaning.specs.Plan.{Visit, Constraint, visit_length, visit_at, visits_of, constraints_of, most_visits, most_dwell, VisitLimits, FlightLimits}
 use Rattle.meaning.specs.Stretches.{sector_of, before, stretches, dwell_of, visits}
-use Rattle.meaning.specs.Bounds.{stretch_bound}
+use Rattle.meaning.proofs.BoundLaws.{stretch_bound}
 use Rattle.meaning.specs.Prices.{price, flight_price}
-use Rattle.meaning.specs.PriceLaws.{flight_price_bound}
+use Rattle.meaning.proofs.PriceLaws.{flight_price_bound}
 use Rattle.kinds.specs.Constraints.{Paying}
 use Rattle.flights.specs.declared.pricing.Stretch.{Stretch}
 

@@ -6,7 +6,7 @@ use Rattle.std.proofs.Math.Seq.{drop-drop}
 use Rattle.meaning.specs.Plan.{constraints_of, visit_length, visits_of, flights_of, FlightLimits}
 use Rattle.meaning.specs.Flights.{length-flights_of}
 use Rattle.meaning.specs.Prices.{flight_price, flights_price, most_dwell_total}
-use Rattle.meaning.specs.PriceLaws.{flights_price_bound}
+use Rattle.meaning.proofs.PriceLaws.{flights_price_bound}
 use Rattle.kinds.specs.Constraints.{Paying}
 use Rattle.flights.specs.Flying.{Flying}
 

@@ -9,7 +9,7 @@ use Rattle.std.proofs.Math.Seq.{take-take}
 use Rattle.lists.specs.Sums.{Every}
 use Rattle.packing.specs.Numbers.{unpack, total}
 use Rattle.meaning.specs.Names.{Renaming, name, renamed}
-use Rattle.meaning.specs.NameLaws.{name-zero}
+use Rattle.meaning.proofs.NameLaws.{name-zero}
 use Rattle.refusals.specs.declared.Refusal.{Refusal}
 use Rattle.refusals.specs.Table.{refusal, plan_refusal}
 use Rattle.refusals.specs.Passed.{front-given}

@@ -14,11 +14,11 @@ use Rattle.lists.specs.Places.{sum-at}
 use Rattle.terms.specs.Plan.{within}
 use Rattle.meaning.specs.Plan.{Constraint, Plan, Coloured, sectors, constraint_at, constraints_of}
 use Rattle.meaning.specs.Kinds.{load, whole, crosses, area_of, outside_area, border, counts, loads, deviation, connected, bounded, by_kind, violation, holds, total}
-use Rattle.meaning.specs.Components.{ncc-sum}
+use Rattle.meaning.proofs.Components.{ncc-sum}
 use Rattle.meaning.specs.Moves.{verdict, verdicts_of, verdicts}
 use Rattle.meaning.specs.Prices.{shared, limited, price, sector_price, prices, limit_total, dwell_total}
 use Rattle.meaning.specs.Weighted.{kinds_sum, weighted-all}
-use Rattle.meaning.specs.PriceLaws.{total_parts}
+use Rattle.meaning.proofs.PriceLaws.{total_parts}
 use Rattle.judge.specs.Figures.{figures_of, figures_by, gauge_of, gauges, verdict_gauge_of, verdict_gauges, gauge_by, gauges_by, constraint_count, violation_by, violation_at, total_by, judged, verdicts_by}
 
 -- the places of the constraints in the flat list, from 0

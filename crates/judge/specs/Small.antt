@@ -14,9 +14,10 @@ use Rattle.meaning.specs.Plan.{Edge, Constraint, Plan, Limits, ConstraintLimits,
 use Rattle.meaning.specs.Joined.{labels, leads}
 use Rattle.meaning.specs.Kinds.{ncc, ncc_all, load, whole, area_of, counts, loads, by_kind}
 use Rattle.meaning.specs.Paths.{Ends, limits_ends}
-use Rattle.meaning.specs.Bounds.{most_load, most_distance, most_border, count_bound, ncc_bound, load_bound, whole_bound, border_bound, deviation_bound}
+use Rattle.meaning.specs.Bounds.{most_load, most_distance, most_border}
+use Rattle.meaning.proofs.BoundLaws.{count_bound, ncc_bound, load_bound, whole_bound, border_bound, deviation_bound}
 use Rattle.meaning.specs.Prices.{most_limit_total, most_dwell_total}
-use Rattle.meaning.specs.PriceLaws.{limit_total_bound, dwell_total_bound}
+use Rattle.meaning.proofs.PriceLaws.{limit_total_bound, dwell_total_bound}
 use Rattle.kinds.specs.Constraints.{Paying, constraint_every}
 use Rattle.judge.specs.declared.Figures.{Figures}
 use Rattle.judge.specs.Figures.{figures_of, constraint_count, unweighted, violation_by, weighted_by, total_by}

@@ -9,7 +9,7 @@ use Rattle.lists.specs.SumLaws.{every_append}
 use Rattle.lists.specs.ListLaws.{length-list_of}
 use Rattle.meaning.specs.Plan.{constraint_length, constraint_at, constraints_of, most_regions, most_sectors, most_constraints}
 use Rattle.meaning.specs.Moves.{verdict_length, moves_of, last}
-use Rattle.meaning.specs.MoveLaws.{length-verdicts}
+use Rattle.meaning.proofs.MoveLaws.{length-verdicts}
 use Rattle.refusals.specs.Table.{Row, none, plan_table, plan_refusal, room_table, call_table, call_refusal}
 use Rattle.refusals.specs.Passed.{Passed, passed, passed_none}
 use Rattle.call.specs.Promise.{Input, Outcome, given, ran, outcome, Promise, is_outcome, input}

@@ -8,7 +8,7 @@ use Rattle.terms.specs.Distance.{distance}
 use Rattle.meaning.specs.Plan.{Constraint, constraint_length, constraint_at, constraints_of, most_constraints, most_weight, ConstraintLimits}
 use Rattle.meaning.specs.Bounds.{most_load, most_distance}
 use Rattle.meaning.specs.Prices.{weight_of, price, most_sector_price}
-use Rattle.meaning.specs.PriceLaws.{price_bound, weight_bound}
+use Rattle.meaning.proofs.PriceLaws.{price_bound, weight_bound}
 use Rattle.kinds.specs.declared.Weights.{Weights}
 use Rattle.kinds.specs.Constraints.{Paying, constraint_every}
 

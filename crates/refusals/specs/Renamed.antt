@@ -4,7 +4,7 @@ use Rattle.std.specs.Prelude.{ℕ, suc, ◌≡◌, refl, List, [], ◌∷◌, le
 use Rattle.std.proofs.Common.{ap}
 use Rattle.std.proofs.lemmas.List.{length-map}
 use Rattle.meaning.specs.Names.{Renaming, name, renamed, renamed_moves}
-use Rattle.meaning.specs.NameLaws.{get_or-renamed, name-within}
+use Rattle.meaning.proofs.NameLaws.{get_or-renamed, name-within}
 use Rattle.scans.specs.Items.{sector_right}
 use Rattle.refusals.specs.Table.{plan_table, room_table}
 use Rattle.refusals.specs.Passed.{off_same}

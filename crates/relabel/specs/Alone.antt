@@ -7,9 +7,9 @@ use Rattle.lists.specs.Sums.{In, at, up_to, count}
 use Rattle.meaning.specs.Plan.{Edge}
 use Rattle.meaning.specs.Joined.{Joined, itself}
 use Rattle.meaning.specs.Paths.{Ends, neighbours_far, joined_trans, joined_sym, joined_in, joined-sector}
-use Rattle.meaning.specs.Labels.{Labelled, label_joined}
+use Rattle.meaning.proofs.Labels.{Labelled, label_joined}
 use Rattle.meaning.specs.Faces.{shares, Shares, shares_make}
-use Rattle.meaning.specs.Put.{Put, in0, in1, joined_up, label_else, joined-put}
+use Rattle.meaning.proofs.Put.{Put, in0, in1, joined_up, label_else, joined-put}
 use Rattle.relabel.specs.ListSums.{count_one}
 
 -- m is the smallest of v and the labels of the components of sector d that share a face with v

@@ -7,7 +7,7 @@ use Rattle.lists.specs.Sums.{In, at}
 use Rattle.lists.specs.Places.{ext_at}
 use Rattle.meaning.specs.Plan.{Edge}
 use Rattle.meaning.specs.Joined.{itself, labels}
-use Rattle.meaning.specs.Labels.{labels_right}
+use Rattle.meaning.proofs.Labels.{labels_right}
 use Rattle.neighbours.specs.Net.{Net}
 use Rattle.search.specs.Flood.{Ready}
 use Rattle.search.specs.Counting.{Counting}

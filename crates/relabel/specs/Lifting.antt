@@ -10,9 +10,9 @@ use Rattle.meaning.specs.Plan.{Edge}
 use Rattle.meaning.specs.Joined.{Neighbours, Joined, itself, labels}
 use Rattle.meaning.specs.Moves.{recolour}
 use Rattle.meaning.specs.Paths.{Ends, neighbours_far, joined_sym}
-use Rattle.meaning.specs.Labels.{Labelled, labels_right, label_joined}
+use Rattle.meaning.proofs.Labels.{Labelled, labels_right, label_joined}
 use Rattle.meaning.specs.Faces.{beside, Shares}
-use Rattle.meaning.specs.Put.{Put, in0, label_else, joined-put}
+use Rattle.meaning.proofs.Put.{Put, in0, label_else, joined-put}
 use Rattle.search.specs.Marks.{mark}
 use Rattle.search.specs.Counting.{Counting}
 use Rattle.search.specs.Ranging.{Rangeable, Ranged}

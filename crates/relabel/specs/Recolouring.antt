@@ -11,10 +11,10 @@ use Rattle.lists.specs.Places.{at_set, at_set_other, by_set}
 use Rattle.meaning.specs.Plan.{Edge}
 use Rattle.meaning.specs.Joined.{labels}
 use Rattle.meaning.specs.Moves.{recolour, differing}
-use Rattle.meaning.specs.MoveLaws.{recolour-own}
-use Rattle.meaning.specs.Labels.{Labelled, labels_right}
+use Rattle.meaning.proofs.MoveLaws.{recolour-own}
+use Rattle.meaning.proofs.Labels.{Labelled, labels_right}
 use Rattle.meaning.specs.Faces.{lift, pieces}
-use Rattle.meaning.specs.Put.{Put, put-recolour, put-own}
+use Rattle.meaning.proofs.Put.{Put, put-recolour, put-own}
 use Rattle.neighbours.specs.Net.{Net}
 use Rattle.search.specs.Marks.{mark}
 use Rattle.search.specs.Flood.{Ready}

@@ -8,7 +8,7 @@ use Rattle.lists.specs.Places.{at_set}
 use Rattle.meaning.specs.Plan.{Edge}
 use Rattle.meaning.specs.Joined.{Joined, labels}
 use Rattle.meaning.specs.Paths.{Ends, joined_sym, joined_in}
-use Rattle.meaning.specs.Labels.{Labelled, labels_right, label_joined}
+use Rattle.meaning.proofs.Labels.{Labelled, labels_right, label_joined}
 use Rattle.meaning.specs.Moves.{recolour, differing}
 use Rattle.neighbours.specs.Net.{Net}
 use Rattle.search.specs.Marks.{mark, unmask, length-unmask, open_sector, unmask-put, mark_keep}

@@ -18,7 +18,7 @@ use Rattle.lists.specs.Counts.{count_split}
 use Rattle.meaning.specs.Plan.{Constraint, Plan, constraint_length, constraint_at, constraints_of, most_kind, ConstraintLimits}
 use Rattle.meaning.specs.Kinds.{holds, total}
 use Rattle.meaning.specs.Moves.{verdict_length, verdicts_of}
-use Rattle.meaning.specs.Holds.{failed_zero, total-zero, verdict_says}
+use Rattle.meaning.proofs.Holds.{failed_zero, total-zero, verdict_says}
 use Rattle.form.specs.Form.{form_in, contents_by}
 use Rattle.form.specs.ContentsLaws.{valid_contents}
 use Rattle.form.specs.Refusals.{refusal_by}

@@ -13,7 +13,7 @@ use Rattle.lists.specs.Tests.{cond_ap}
 use Rattle.terms.specs.Plan.{within}
 use Rattle.meaning.specs.Plan.{edges_of}
 use Rattle.meaning.specs.Names.{Renaming, name, renamed}
-use Rattle.meaning.specs.NameLaws.{name-zero, at_renamed, name-eqb, name-within}
+use Rattle.meaning.proofs.NameLaws.{name-zero, at_renamed, name-eqb, name-within}
 use Rattle.blocks.specs.Mapped.{part_mapped, block_wrong}
 use Rattle.form.specs.declared.Form.{Form}
 use Rattle.form.specs.declared.Head.{Head}

@@ -6,7 +6,7 @@ use Rattle.std.proofs.Math.Decide.{ℕ_discrete}
 use Rattle.lists.specs.Sums.{In, at}
 use Rattle.lists.specs.Places.{at_set, at_set_other}
 use Rattle.meaning.specs.Moves.{recolour, swap}
-use Rattle.meaning.specs.Alike.{Agree}
+use Rattle.meaning.proofs.Alike.{Agree}
 
 -- from one colouring to the other only regions of sectors c and d have another sector, and it is one of these two
 pub record Confined (R S : ℕ) (col col' : List ℕ) (c d : ℕ) : Type 0 where

@@ -5,7 +5,7 @@ use Rattle.std.proofs.Common.{arith}
 use Rattle.lists.specs.Sums.{In, at}
 use Rattle.meaning.specs.Plan.{Edge}
 use Rattle.meaning.specs.Joined.{labels}
-use Rattle.meaning.specs.Labels.{Labelled, labels_right}
+use Rattle.meaning.proofs.Labels.{Labelled, labels_right}
 use Rattle.neighbours.specs.Net.{Net}
 use Rattle.search.specs.Marks.{mark}
 use Rattle.search.specs.Flood.{Ready}

@@ -7,7 +7,7 @@ use Rattle.lists.specs.Parts.{Passed, passed_start, passed_turn, passed_map}
 use Rattle.meaning.specs.Plan.{Edge}
 use Rattle.meaning.specs.Joined.{Neighbours, instead}
 use Rattle.meaning.specs.Moves.{recolour}
-use Rattle.meaning.specs.MoveLaws.{recolour-own}
+use Rattle.meaning.proofs.MoveLaws.{recolour-own}
 use Rattle.neighbours.specs.Net.{Net, net_in}
 use Rattle.search.specs.Marks.{mark, mark_shut, by_test}
 use Rattle.search.specs.Flood.{Reached, reached_here, Flood, flood_top}

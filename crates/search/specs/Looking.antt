@@ -6,7 +6,7 @@ use Rattle.lists.specs.Sums.{In, at, Every}
 use Rattle.lists.specs.Places.{by_set}
 use Rattle.meaning.specs.Plan.{Edge, EdgeLimits, most_sectors, most_edges}
 use Rattle.meaning.specs.Moves.{recolour}
-use Rattle.meaning.specs.MoveLaws.{recolour-own}
+use Rattle.meaning.proofs.MoveLaws.{recolour-own}
 use Rattle.meaning.specs.Faces.{lift, beside, pieces, area_to}
 use Rattle.neighbours.specs.Table.{Table}
 use Rattle.neighbours.specs.Net.{Net, table_net}

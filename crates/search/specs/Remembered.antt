@@ -9,7 +9,7 @@ use Rattle.lists.specs.Sums.{In, at}
 use Rattle.meaning.specs.Plan.{Edge, most_regions, most_moves}
 use Rattle.meaning.specs.Paths.{Ends}
 use Rattle.meaning.specs.Faces.{pieces, pieces_bound}
-use Rattle.meaning.specs.Alike.{pieces-alike}
+use Rattle.meaning.proofs.Alike.{pieces-alike}
 use Rattle.search.specs.Confined.{Confined, confined_agree}
 
 -- what a version is multiplied by, to stand with a number of pieces in one number: more than any number of pieces

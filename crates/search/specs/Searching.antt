@@ -14,7 +14,7 @@ use Rattle.meaning.specs.Plan.{Edge}
 use Rattle.meaning.specs.Joined.{Neighbours, Joined, labels}
 use Rattle.meaning.specs.Moves.{recolour}
 use Rattle.meaning.specs.Paths.{joined_in, neighbours_far}
-use Rattle.meaning.specs.Labels.{label_joined}
+use Rattle.meaning.proofs.Labels.{label_joined}
 use Rattle.meaning.specs.Faces.{shares, beside, shares-true, shares_make}
 use Rattle.neighbours.specs.Net.{net_in}
 use Rattle.search.specs.Marks.{mark, unmask, open_sector, sector-marked, unmask-put, mark_shut}

@@ -11,9 +11,9 @@ use Rattle.lists.specs.Counts.{count_same, count_none, count_more}
 use Rattle.lists.specs.Parts.{Passed, passed_start, passed_turn, passed_map}
 use Rattle.meaning.specs.Plan.{Edge}
 use Rattle.meaning.specs.Joined.{Joined, instead, labels}
-use Rattle.meaning.specs.Labels.{Labelled, labels_right}
+use Rattle.meaning.proofs.Labels.{Labelled, labels_right}
 use Rattle.meaning.specs.Moves.{recolour}
-use Rattle.meaning.specs.MoveLaws.{recolour-own}
+use Rattle.meaning.proofs.MoveLaws.{recolour-own}
 use Rattle.meaning.specs.Paths.{joined_in, joined-sector, neighbours_far}
 use Rattle.meaning.specs.Faces.{shares, beside, Shares, shares-true, shares_make}
 use Rattle.neighbours.specs.Net.{Net, net_in}

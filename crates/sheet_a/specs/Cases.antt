@@ -8,7 +8,7 @@ use Rattle.meaning.specs.Plan.{Visit, Plan, edges_of, visits_of, flights_of, con
 use Rattle.meaning.specs.Joined.{take_in, take_every, labels}
 use Rattle.meaning.specs.Stretches.{before, stretches, dwell_of, visits}
 use Rattle.meaning.specs.Kinds.{ncc, ncc_all, load, whole, outside_area, border, counts, loads, deviation, connected, bounded, dwelling, by_kind, violation, holds, total, leads_to, border_of, dwelling_of, part_of, region_violation}
-use Rattle.meaning.specs.Outer.{faces, colours, is_in, surface}
+use Rattle.meaning.proofs.Outer.{faces, colours, is_in, surface}
 use Rattle.meaning.specs.Moves.{moves_of, next, delta, differing, relabelled, row, cells, rows, verdict, verdicts_of, verdicts, work}
 use Rattle.blocks.specs.Fletcher.{check, added}
 

@@ -9,7 +9,7 @@ use Rattle.terms.specs.Moves.{status}
 use Rattle.terms.specs.declared.Move.{Move}
 use Rattle.meaning.specs.Plan.{Plan, Limits}
 use Rattle.meaning.specs.Moves.{Row, row, cells}
-use Rattle.meaning.specs.Deltas.{delta_reads, row_fits}
+use Rattle.meaning.proofs.Deltas.{delta_reads, row_fits}
 use Rattle.engine.specs.State.{Within, Answered}
 use Rattle.turns.specs.Decoded.{status_small}
 use Rattle.engine.specs.declared.Stepped.{Stepped}

@@ -9,8 +9,8 @@ use Rattle.meaning.specs.Plan.{Edge, Plan, Limits, Coloured, most_regions, most_
 use Rattle.meaning.specs.Joined.{labels}
 use Rattle.meaning.specs.Kinds.{counts, loads}
 use Rattle.meaning.specs.Moves.{next}
-use Rattle.meaning.specs.Labels.{plan_labels}
-use Rattle.meaning.specs.Components.{counts-length, loads-length}
+use Rattle.meaning.proofs.Labels.{plan_labels}
+use Rattle.meaning.proofs.Components.{counts-length, loads-length}
 use Rattle.search.specs.Remembered.{Remembered, remembered_none}
 use Rattle.engine.specs.State.{memory, memory_length, Setting, Ready, Opened, Answered}
 use Rattle.engine.specs.declared.Standing.{Standing}

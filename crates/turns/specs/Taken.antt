@@ -10,7 +10,7 @@ use Rattle.lists.specs.ListLaws.{sets_append, drop-list_of, every_list_of}
 use Rattle.terms.specs.declared.Move.{Move}
 use Rattle.meaning.specs.Plan.{Plan, Limits, Coloured}
 use Rattle.meaning.specs.Moves.{move_length, row_length, move_at, moves_of, next, row, cells, rows, last}
-use Rattle.meaning.specs.MoveLaws.{length-cells, length-rows, length_moves}
+use Rattle.meaning.proofs.MoveLaws.{length-cells, length-rows, length_moves}
 use Rattle.engine.specs.State.{memory_length, Ready, Within, Opened}
 use Rattle.turns.specs.StateLaws.{opened_beyond, opened_ready}
 use Rattle.turns.specs.Decoded.{move_within, coloured-next}

@@ -8,7 +8,7 @@ use Rattle.lists.specs.Sums.{at}
 use Rattle.meaning.specs.Plan.{constraints_of, flights_of}
 use Rattle.meaning.specs.Flights.{length-flights_of}
 use Rattle.meaning.specs.Prices.{flight_price, visitors_price, most_dwell_total}
-use Rattle.meaning.specs.PriceLaws.{visitors_none, visitors_price_bound}
+use Rattle.meaning.proofs.PriceLaws.{visitors_none, visitors_price_bound}
 use Rattle.visitors.specs.Left.{flight_from}
 use Rattle.visitors.specs.Once.{once, once-each}
 use Rattle.visitors.specs.Row.{Row, row_of, row_end_lem, row_number, row_first, row_drop}

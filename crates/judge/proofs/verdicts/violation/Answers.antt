@@ -5,7 +5,7 @@ use mathlib.Core.Bool.{not}
 use mathlib.Core.Path.{sym, ap, ◌∙◌}
 use Rattle.lists.specs.Tests.{bit_le}
 use Rattle.terms.specs.Distance.{stands}
-use Rattle.meaning.specs.Holds.{by_kind_1, by_kind_2, by_kind_3, by_kind_late}
+use Rattle.meaning.proofs.Holds.{by_kind_1, by_kind_2, by_kind_3, by_kind_late}
 use Rattle.judge.specs.Figures.{violation_by}
 use Rattle.judge.proofs.verdicts.violation.Goals as goal
 

@@ -8,8 +8,8 @@ use Rattle.lists.specs.Onto.{Onto, sum_onto}
 use Rattle.terms.specs.Distance.{stands}
 use Rattle.meaning.specs.Plan.{Constraint, Plan, sectors, with_sectors}
 use Rattle.meaning.specs.Kinds.{ncc, ncc_all, load, counts, loads, connected}
-use Rattle.meaning.specs.Components.{Empty, empty_ncc, empty_load}
-use Rattle.meaning.specs.Together.{Together, SameRegions, ncc-all-together, ncc-together, load-same-regions}
+use Rattle.meaning.proofs.Components.{Empty, empty_ncc, empty_load}
+use Rattle.meaning.proofs.Together.{Together, SameRegions, ncc-all-together, ncc-together, load-same-regions}
 
 -- sector c of the first colouring is sector p c of the second, which has S of them; those that fail the test have no region
 pub record Matched (P : Plan) (S : ℕ) (some : ℕ → Bool) (p : ℕ → ℕ) (col col' : List ℕ) : Type 0 where

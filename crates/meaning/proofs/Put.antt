@@ -9,9 +9,9 @@ use Rattle.lists.specs.Places.{at_set, at_set_other}
 use Rattle.meaning.specs.Plan.{Edge}
 use Rattle.meaning.specs.Joined.{Neighbours, Joined, itself, along}
 use Rattle.meaning.specs.Moves.{recolour}
-use Rattle.meaning.specs.MoveLaws.{recolour-own}
+use Rattle.meaning.proofs.MoveLaws.{recolour-own}
 use Rattle.meaning.specs.Paths.{Ends, neighbours_sym, neighbours_in, neighbours_far, joined_trans}
-use Rattle.meaning.specs.Labels.{Labelled, label_joined}
+use Rattle.meaning.proofs.Labels.{Labelled, label_joined}
 use Rattle.meaning.specs.Faces.{lift, Shares}
 
 -- c1 is c0, in which v is lifted out, with v put into sector d

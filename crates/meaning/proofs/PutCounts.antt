@@ -13,9 +13,9 @@ use Rattle.meaning.specs.Plan.{Edge, Plan, Limits}
 use Rattle.meaning.specs.Joined.{Joined, labels}
 use Rattle.meaning.specs.Kinds.{ncc, leads_to}
 use Rattle.meaning.specs.Paths.{Ends, limits_ends, neighbours_far, joined_sym, joined_in, joined-sector}
-use Rattle.meaning.specs.Labels.{Labelled, plan_labels, label_joined}
+use Rattle.meaning.proofs.Labels.{Labelled, plan_labels, label_joined}
 use Rattle.meaning.specs.Faces.{belongs, shares, beside, Shares, shares-true, shares_make}
-use Rattle.meaning.specs.Put.{Put, in0, in1, label_else, joined-put}
+use Rattle.meaning.proofs.Put.{Put, in0, in1, label_else, joined-put}
 
 -- where each region has sector c and label l in both colourings or in neither, v shares a face with such a region in both or in neither
 shares-same : {R : ℕ} (c0 c1 l0 l1 : List ℕ) (v c l : ℕ) (edges : List Edge) → Ends R edges → ((w : ℕ) → In R w → belongs c1 l1 c l w ≡ belongs c0 l0 c l w)

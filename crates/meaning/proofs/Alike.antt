@@ -11,7 +11,7 @@ use Rattle.lists.specs.Tests.{test-same}
 use Rattle.lists.specs.Places.{at_set, at_set_other}
 use Rattle.meaning.specs.Plan.{Edge}
 use Rattle.meaning.specs.Joined.{Joined, itself, along, labels}
-use Rattle.meaning.specs.Labels.{Labelled, labels_right}
+use Rattle.meaning.proofs.Labels.{Labelled, labels_right}
 use Rattle.meaning.specs.Paths.{Ends, neighbours_in, neighbours_far}
 use Rattle.meaning.specs.Faces.{lift, beside, pieces, shares, Shares, shares-true, shares_make}
 

@@ -13,7 +13,8 @@ use Rattle.terms.specs.declared.Move.TheVariants.{Recolour, Exchange, Ask, Refus
 use Rattle.meaning.specs.Plan.{Plan, Limits}
 use Rattle.meaning.specs.Joined.{labels}
 use Rattle.meaning.specs.Moves.{recolour, swap, next, delta, differing, relabelled, row, cells}
-use Rattle.meaning.specs.Bounds.{most_total, count_bound, total_bound, region_bound}
+use Rattle.meaning.specs.Bounds.{most_total}
+use Rattle.meaning.proofs.BoundLaws.{count_bound, total_bound, region_bound}
 
 -- of either sign, the difference of two numbers that are at most B is no larger
 sides_mag : (t : Bool) {a b B : ℕ} → a ≤ B → b ≤ B → mag (cond t (negsuc (b - suc a)) (pos (a - b))) ≤ B

@@ -12,11 +12,11 @@ use Rattle.meaning.specs.Joined.{Joined, labels}
 use Rattle.meaning.specs.Kinds.{ncc, load, border}
 use Rattle.meaning.specs.Moves.{recolour}
 use Rattle.meaning.specs.Paths.{limits_ends}
-use Rattle.meaning.specs.Labels.{plan_labels}
+use Rattle.meaning.proofs.Labels.{plan_labels}
 use Rattle.meaning.specs.Faces.{lift, beside, pieces, area_to}
-use Rattle.meaning.specs.Put.{Put, put-recolour, put-own, label_else}
-use Rattle.meaning.specs.PutCounts.{ncc-put, ncc_else, beside_else}
-use Rattle.meaning.specs.Areas.{border-put}
+use Rattle.meaning.proofs.Put.{Put, put-recolour, put-own, label_else}
+use Rattle.meaning.proofs.PutCounts.{ncc-put, ncc_else, beside_else}
+use Rattle.meaning.proofs.Areas.{border-put}
 
 module _ {P : Plan} {col : List ℕ} {v d : ℕ} (k : Coloured P col) (i : In P.R v) (j : In P.S d) where
   -- each region has a sector afterwards

@@ -12,7 +12,7 @@ use Rattle.lists.specs.Tests.{eqb_sym, cond_parts}
 use Rattle.meaning.specs.Plan.{Edge, Plan, EdgeLimits, Limits}
 use Rattle.meaning.specs.Kinds.{crosses, border, leads_to}
 use Rattle.meaning.specs.Faces.{area_to}
-use Rattle.meaning.specs.Put.{Put}
+use Rattle.meaning.proofs.Put.{Put}
 
 -- at most one end of an edge is v
 ends_at : {R : ℕ} (e : Edge) (v : ℕ) (Q : Bool → Bool → Type 0) → EdgeLimits R e

@@ -18,7 +18,8 @@ use Rattle.meaning.specs.Stretches.{stretches, dwell_of, visits}
 use Rattle.meaning.specs.StretchLaws.{stretches_elsewhere, stretches-recolour}
 use Rattle.meaning.specs.Kinds.{ncc, load, loads, off_balance, bounded, over_stretches, off_dwell, dwelling, violation, total, border_of, dwelling_of, part_of, region_violation}
 use Rattle.meaning.specs.Moves.{recolour}
-use Rattle.meaning.specs.Bounds.{most_off, most_distance, flight_bound, load_bound}
+use Rattle.meaning.specs.Bounds.{most_off, most_distance}
+use Rattle.meaning.proofs.BoundLaws.{flight_bound, load_bound}
 use Rattle.meaning.specs.Prices.{shared, limited, timed, weighted, weight_of, price, sector_price, prices, limit_total, most_sector_price, most_limit_total, flight_price, flights_price, visitors_price, dwell_total, most_dwell_total}
 use Rattle.meaning.specs.Weighted.{kinds_limits, kinds_few, kinds_sum, kind_sum, weighted-all, weighted-add, weighted-sum, weighted-cond, shared-sum, kinds_apart}
 

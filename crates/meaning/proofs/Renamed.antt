@@ -20,10 +20,10 @@ use Rattle.meaning.specs.Plan.{Constraint, Plan}
 use Rattle.meaning.specs.Joined.{labels}
 use Rattle.meaning.specs.Kinds.{ncc, load, border, deviation, bounded, violation, holds, total, off_balance, part_of, region_violation}
 use Rattle.meaning.specs.Moves.{recolour, swap, next, delta, row, rows, last, verdict, verdicts_of, verdicts}
-use Rattle.meaning.specs.Together.{SameRegions, labels-together, border-together, dwelling-together, border_of_together, dwelling_of_together, ncc-together, load-same-regions, relabelled-together}
-use Rattle.meaning.specs.Matched.{Matched, over-loads, connected_matched}
+use Rattle.meaning.proofs.Together.{SameRegions, labels-together, border-together, dwelling-together, border_of_together, dwelling_of_together, ncc-together, load-same-regions, relabelled-together}
+use Rattle.meaning.proofs.Matched.{Matched, over-loads, connected_matched}
 use Rattle.meaning.specs.Names.{Renaming, name, renamed, renamed_move}
-use Rattle.meaning.specs.NameLaws.{name-sector, name-eqb, at_renamed, renamed-together}
+use Rattle.meaning.proofs.NameLaws.{name-sector, name-eqb, at_renamed, renamed-together}
 
 module _ (P : Plan) {p : ℕ → ℕ} (r : Renaming P.S p) where
   -- a renaming goes one to one onto 1..S

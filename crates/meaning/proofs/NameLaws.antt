@@ -18,7 +18,7 @@ use Rattle.terms.specs.declared.MadeRegion.{MadeRegion}
 use Rattle.terms.specs.declared.MadeRegion.TheVariants as region
 use Rattle.terms.specs.declared.MadeSector.TheVariants as sector
 use Rattle.terms.specs.declared.Move.TheVariants.{Ask, Refused}
-use Rattle.meaning.specs.Together.{Together}
+use Rattle.meaning.proofs.Together.{Together}
 use Rattle.meaning.specs.Names.{Renaming, name, renamed, renamed_move, renamed_second}
 
 -- ---- a name

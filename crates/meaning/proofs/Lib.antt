@@ -1,0 +1,17 @@
+pub mod BoundLaws
+pub mod Alike
+pub mod Areas
+pub mod Components
+pub mod Deltas
+pub mod Holds
+pub mod Labels
+pub mod MoveLaws
+pub mod NameLaws
+pub mod Outer
+pub mod PriceLaws
+pub mod Put
+pub mod PutCounts
+pub mod Recoloured
+pub mod Renamed
+pub mod Together
+pub mod Matched
