@@ -17,7 +17,7 @@ use Rattle.form.specs.declared.Form.TheVariants.{First, Second}
 use Rattle.form.specs.declared.Head.{Head}
 use Rattle.form.specs.Form.{kind_count, Contents, head_of, carried}
 use Rattle.form.specs.FormLaws.{HeadLimits}
-use Rattle.form.specs.ContentsLaws.{ValidContents}
+use Rattle.form.proofs.ContentsLaws.{ValidContents}
 use Rattle.form.specs.Refusals.{contents_table, contents_refusal}
 use Rattle.conversion.specs.Promise.{all_zero, kind_right, kinds_right, carries}
 

@@ -22,9 +22,10 @@ use Rattle.form.specs.declared.Head.{Head}
 use Rattle.form.specs.Form.{letters, outside_count, kind_count, Contents, head_of, carried, layouts, dues, stored, numbers, sheet_of, head_in, contents_in}
 use Rattle.form.specs.FormLaws.{HeadLimits, Bounded}
 use Rattle.form.specs.Firsts.{HasBlocks}
-use Rattle.form.specs.ContentsLaws.{Counted, head_of_lem, head_read, valid_contents}
+use Rattle.form.proofs.ContentsLaws.{Counted, head_of_lem, head_read, valid_contents}
 use Rattle.form.specs.Refusals.{contents_refusal}
-use Rattle.form.specs.Accepted.{Accepted, accepted-none, rows-refused, rows_passed}
+use Rattle.form.specs.Accepted.{Accepted}
+use Rattle.form.proofs.AcceptedLaws.{accepted-none, rows-refused, rows_passed}
 use Rattle.form.specs.Over.{over}
 use Rattle.holding.specs.Held.{most_held, contents_held, Holds}
 use Rattle.holding.specs.HeldLaws.{counted_held, holds-accepted, holds-contents}

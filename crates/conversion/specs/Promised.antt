@@ -12,11 +12,12 @@ use Rattle.refusals.specs.Passed.{passed, passed_none, passed_more, front_passed
 use Rattle.form.specs.declared.Form.{Form}
 use Rattle.form.specs.declared.Form.TheVariants.{First}
 use Rattle.form.specs.Form.{form_in, Contents, head_of, carried, sheet_of, contents_in, head_by, contents_by}
-use Rattle.form.specs.ContentsLaws.{Counted, carried_in, counted_in, head_read, valid_contents, counted_valid}
+use Rattle.form.proofs.ContentsLaws.{Counted, carried_in, counted_in, head_read, valid_contents, counted_valid}
 use Rattle.form.specs.Refusals.{contents_table, contents_refusal}
 use Rattle.form.specs.Over.{over}
-use Rattle.form.specs.Accepted.{Accepted, accepted, accepted-none, opened_form, rows_none, rows_passed}
-use Rattle.form.specs.RoundTrip.{read-written, length-written, head_written, written_read, accepted-written}
+use Rattle.form.specs.Accepted.{Accepted}
+use Rattle.form.proofs.AcceptedLaws.{accepted, accepted-none, opened_form, rows_none, rows_passed}
+use Rattle.form.proofs.RoundTrip.{read-written, length-written, head_written, written_read, accepted-written}
 use Rattle.reading.specs.declared.Read.{Read}
 use Rattle.reading.specs.Promise as reading
 use Rattle.writing.specs.declared.Written.{Written}

@@ -10,11 +10,12 @@ use Rattle.refusals.specs.Table.{none}
 use Rattle.refusals.specs.Passed.{passed, passed_none, passed_most}
 use Rattle.form.specs.declared.Form.{Form}
 use Rattle.form.specs.Form.{form_in, carried, sheet_of, contents_in}
-use Rattle.form.specs.ContentsLaws.{valid_contents, second_takes, carried_in}
+use Rattle.form.proofs.ContentsLaws.{valid_contents, second_takes, carried_in}
 use Rattle.form.specs.Refusals.{contents_refusal}
 use Rattle.form.specs.Over.{over}
-use Rattle.form.specs.Accepted.{Accepted, accepted, accepted-none, opened_form, rows_none, rows_passed}
-use Rattle.form.specs.RoundTrip.{read-written, length-written, written_read, accepted-written}
+use Rattle.form.specs.Accepted.{Accepted}
+use Rattle.form.proofs.AcceptedLaws.{accepted, accepted-none, opened_form, rows_none, rows_passed}
+use Rattle.form.proofs.RoundTrip.{read-written, length-written, written_read, accepted-written}
 use Rattle.writing.specs.declared.Written.{Written}
 use Rattle.writing.specs.Promise.{sheet_bytes, Outcome, written_answer, left}
 use Rattle.conversion.specs.Promise.{carries, last_rows, convert_refusal, outcome, Promise, is_outcome}

@@ -5,7 +5,8 @@ use Rattle.std.proofs.Common.{sym, ap, subst, ◌∙◌}
 use Rattle.form.specs.declared.Form.{Form}
 use Rattle.form.specs.Form.{Contents, contents_in, contents_by}
 use Rattle.form.specs.Refusals.{refusal_by}
-use Rattle.form.specs.Accepted.{Accepted, accepted-none, opened_form}
+use Rattle.form.specs.Accepted.{Accepted}
+use Rattle.form.proofs.AcceptedLaws.{accepted-none, opened_form}
 use Rattle.reading.specs.Promise as reading
 use Rattle.writing.specs.Promise.{Outcome}
 use Rattle.conversion.specs.Promise as conversion

@@ -8,7 +8,7 @@ use Rattle.refusals.specs.declared.Refusal.{Refusal}
 use Rattle.refusals.specs.Table.{refused}
 use Rattle.form.specs.declared.Form.TheVariants.{First}
 use Rattle.form.specs.Form.{Contents, carried, head_in, contents_in}
-use Rattle.form.specs.ContentsLaws.{carried_in}
+use Rattle.form.proofs.ContentsLaws.{carried_in}
 use Rattle.demands.specs.Rules.{Each, OutsideFits, CountsFit, VisitsFit}
 use Rattle.demands.specs.SheetRules.{HeadFlightsFit, as_given, SheetCodes}
 

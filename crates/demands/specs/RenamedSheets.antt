@@ -11,9 +11,9 @@ use Rattle.form.specs.declared.Form.{Form}
 use Rattle.form.specs.declared.Form.TheVariants.{First, Second}
 use Rattle.form.specs.Form.{form_in, Contents, carried, sheet_of, contents_in, head_by, contents_by}
 use Rattle.form.specs.Refusals.{contents_refusal, open_table, sheet_refusal, refusal_by}
-use Rattle.form.specs.Renamed.{renamed_contents, RenamedSheet, table_renamed, carried-renamed, whole-renamed, SameFirst, form_first, refused_first, same_first, head_renamed, contents-renamed, open_renamed, held-renamed, written-renamed}
-use Rattle.form.specs.Accepted.{opened_form}
-use Rattle.form.specs.RoundTrip.{written_read, accepted-written}
+use Rattle.form.proofs.Renamed.{renamed_contents, RenamedSheet, table_renamed, carried-renamed, whole-renamed, SameFirst, form_first, refused_first, same_first, head_renamed, contents-renamed, open_renamed, held-renamed, written-renamed}
+use Rattle.form.proofs.AcceptedLaws.{opened_form}
+use Rattle.form.proofs.RoundTrip.{written_read, accepted-written}
 use Rattle.judging.specs.Judgement.{plan_held, judged, judgement}
 use Rattle.judgement.specs.Promise.{code, place, total_of, constraint_count, verdict_at, holds, violation, text_of}
 use Rattle.reading.specs.Promise as reading

@@ -8,7 +8,7 @@ use Rattle.refusals.specs.Table.{refusal}
 use Rattle.form.specs.declared.Form.{Form}
 use Rattle.form.specs.Form.{form_in, contents_by}
 use Rattle.form.specs.Refusals.{open_table}
-use Rattle.form.specs.Renamed.{RenamedSheet, SameFirst}
+use Rattle.form.proofs.Renamed.{RenamedSheet, SameFirst}
 use Rattle.writing.specs.Promise.{Outcome}
 use Rattle.conversion.specs.Promise.{Promise}
 use Rattle.conversion.specs.Trips.{converted}

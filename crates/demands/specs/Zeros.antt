@@ -13,9 +13,9 @@ use Rattle.meaning.specs.Moves.{verdict_length}
 use Rattle.meaning.proofs.Holds.{SayHolds, total-zero, verdicts_hold}
 use Rattle.call.specs.Promise.{Input, Outcome, Promise, plan_in}
 use Rattle.form.specs.Form.{form_in, contents_by}
-use Rattle.form.specs.ContentsLaws.{valid_contents}
+use Rattle.form.proofs.ContentsLaws.{valid_contents}
 use Rattle.form.specs.Refusals.{refusal_by}
-use Rattle.form.specs.Accepted.{accepted}
+use Rattle.form.proofs.AcceptedLaws.{accepted}
 use Rattle.judging.specs.Judgement.{Judgement, plan_held, judged, refused_for, judgement}
 use Rattle.judgement.specs.Promise.{code, total_of, constraint_count}
 use Rattle.judgement.specs.Promise as judgement

@@ -1,15 +1,9 @@
 pub mod Form
 pub mod Refusals
-pub mod SheetA
 pub mod FormLaws
 pub mod Firsts
-pub mod ContentsLaws
-pub mod Fitting
 pub mod Accepted
-pub mod RoundTrip
-pub mod Renamed
 pub mod Over
 pub mod Listed
-pub mod Turning
 pub mod Formed
 pub mod Recoloured

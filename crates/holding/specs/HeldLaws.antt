@@ -9,10 +9,12 @@ use Rattle.form.specs.declared.Form.{Form}
 use Rattle.form.specs.declared.Form.TheVariants.{Second}
 use Rattle.form.specs.declared.Head.{Head}
 use Rattle.form.specs.Form.{Contents, head_in, contents_in}
-use Rattle.form.specs.FormLaws.{some_block, Bounded, bounded}
-use Rattle.form.specs.ContentsLaws.{Counted, second_takes}
+use Rattle.form.specs.FormLaws.{Bounded}
+use Rattle.form.proofs.FormLaws.{some_block, bounded}
+use Rattle.form.proofs.ContentsLaws.{Counted, second_takes}
 use Rattle.form.specs.Refusals.{contents_refusal}
-use Rattle.form.specs.Accepted.{Accepted, accepted}
+use Rattle.form.specs.Accepted.{Accepted}
+use Rattle.form.proofs.AcceptedLaws.{accepted}
 use Rattle.holding.specs.Held.{outside_at, edges_at, constraints_at, colouring_at, counts_at, visits_at, held_end, most_held, contents_held, Holds}
 
 -- there is room for what is held

@@ -11,7 +11,8 @@ use Rattle.form.specs.declared.Form.{Form}
 use Rattle.form.specs.declared.Head.{Head}
 use Rattle.form.specs.Form.{Contents, head_in, contents_in}
 use Rattle.form.specs.Refusals.{fault, open_table, contents_refusal, later_fault, held_table, sheet_refusal}
-use Rattle.form.specs.Accepted.{Opened, open_passed}
+use Rattle.form.specs.Accepted.{Opened}
+use Rattle.form.proofs.AcceptedLaws.{open_passed}
 use Rattle.holding.specs.Held.{contents_held, Holds}
 
 module _ {f : Form} {sheet : List ℕ} where

@@ -16,9 +16,10 @@ use Rattle.form.specs.declared.Form.{Form}
 use Rattle.form.specs.declared.Form.TheVariants.{First, Second}
 use Rattle.form.specs.declared.Head.{Head}
 use Rattle.form.specs.Form.{workload_layout, outside_layout, edge_layout, constraint_layout, colouring_layout, count_layout, visit_layout, layouts, turned, unstored, Contents, head_in, contents_of, contents_in}
-use Rattle.form.specs.Firsts.{workload_first, outside_first, edge_first, constraint_first, colouring_first, count_first, visit_first, blocks_all, HasBlocks}
-use Rattle.form.specs.FormLaws.{bounded, length-turned}
-use Rattle.form.specs.ContentsLaws.{Counted, counted_in}
+use Rattle.form.specs.Firsts.{workload_first, outside_first, edge_first, constraint_first, colouring_first, count_first, visit_first, HasBlocks}
+use Rattle.form.proofs.FirstLaws.{blocks_all}
+use Rattle.form.proofs.FormLaws.{bounded, length-turned}
+use Rattle.form.proofs.ContentsLaws.{Counted, counted_in}
 use Rattle.holding.specs.Held.{outside_at, edges_at, constraints_at, colouring_at, counts_at, visits_at, held_end, most_held, contents_held}
 use Rattle.holding.specs.HeldLaws.{held_room}
 use Rattle.packing.specs.Puts.{put-part, put-over, put_all, Standing, standing}

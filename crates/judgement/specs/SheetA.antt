@@ -16,9 +16,9 @@ use Rattle.form.specs.declared.Form.{Form}
 use Rattle.form.specs.declared.Form.TheVariants.{First, Second}
 use Rattle.form.specs.Form.{Contents, carried, form_in, sheet_of}
 use Rattle.form.specs.Refusals.{open_table, contents_refusal, sheet_refusal}
-use Rattle.form.specs.Accepted.{opened_form}
-use Rattle.form.specs.RoundTrip.{accepted-written, contents_again}
-use Rattle.form.specs.SheetA.{sheet_a, flown_a}
+use Rattle.form.proofs.AcceptedLaws.{opened_form}
+use Rattle.form.proofs.RoundTrip.{accepted-written, contents_again}
+use Rattle.form.proofs.SheetA.{sheet_a, flown_a}
 use Rattle.judging.specs.Judgement.{verdicts_held, total_held, judged, refused_for, judgement}
 use Rattle.judgement.specs.Promise.{verdict_at, holds, violation, text_of}
 

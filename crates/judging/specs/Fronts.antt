@@ -7,9 +7,9 @@ use Rattle.meaning.specs.Plan.{constraint_length, most_constraints}
 use Rattle.meaning.specs.Moves.{verdict_length}
 use Rattle.form.specs.declared.Head.{Head}
 use Rattle.form.specs.Form.{form_in, contents_by}
-use Rattle.form.specs.ContentsLaws.{counted_in, head_read}
+use Rattle.form.proofs.ContentsLaws.{counted_in, head_read}
 use Rattle.form.specs.Refusals.{refusal_by}
-use Rattle.form.specs.Accepted.{accepted}
+use Rattle.form.proofs.AcceptedLaws.{accepted}
 use Rattle.judging.specs.declared.Judged.{Judged}
 use Rattle.judging.specs.Judgement.{Judgement, judged, refused_for, judgement}
 use Rattle.judging.specs.Judged.{Leaves}

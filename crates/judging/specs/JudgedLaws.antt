@@ -8,7 +8,7 @@ use Rattle.meaning.specs.Plan.{constraint_length}
 use Rattle.refusals.specs.declared.Refusal.{Refusal}
 use Rattle.form.specs.declared.Head.{Head}
 use Rattle.form.specs.Form.{form_in, Contents, head_by, contents_by}
-use Rattle.form.specs.ContentsLaws.{counted_in}
+use Rattle.form.proofs.ContentsLaws.{counted_in}
 use Rattle.form.specs.Over.{over}
 use Rattle.holding.specs.Held.{contents_held, Holds}
 use Rattle.holding.specs.HeldLaws.{holds-contents}

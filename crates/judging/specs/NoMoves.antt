@@ -15,7 +15,7 @@ use Rattle.refusals.specs.Passed.{Passed, passed, passed_none}
 use Rattle.call.specs.Promise.{Input, Outcome, given, ran, outcome, Promise, is_outcome, input}
 use Rattle.form.specs.declared.Form.TheVariants.{Second}
 use Rattle.form.specs.Form.{Contents}
-use Rattle.form.specs.ContentsLaws.{valid_contents, limits_valid}
+use Rattle.form.proofs.ContentsLaws.{valid_contents, limits_valid}
 use Rattle.form.specs.Refusals.{contents_table, contents_refusal}
 use Rattle.form.specs.Over.{over}
 use Rattle.judging.specs.Judgement.{plan_held, verdicts_held, total_held}

@@ -9,7 +9,7 @@ use Rattle.refusals.specs.declared.Refusal.{Refusal}
 use Rattle.refusals.specs.Table.{refused, whole, refusal}
 use Rattle.form.specs.declared.Head.{Head}
 use Rattle.form.specs.Form.{form_in, Contents, head_by, contents_by}
-use Rattle.form.specs.Accepted.{rows-refused, rows_passed}
+use Rattle.form.proofs.AcceptedLaws.{rows-refused, rows_passed}
 use Rattle.holding.specs.Held.{contents_held, Holds}
 use Rattle.reading.specs.declared.Read.{Read}
 use Rattle.reading.specs.Promise.{Input, enough, room_right, read_refusal, Outcome, refused_answer, held_answer, refused_by, held, outcome, Promise, left}

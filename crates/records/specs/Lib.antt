@@ -2,5 +2,3 @@ pub mod Numbers
 pub mod NumberLaws
 pub mod TooMany
 pub mod Copied
-pub mod CopiedLaws
-pub mod Same

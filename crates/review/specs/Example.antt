@@ -18,7 +18,7 @@ use Rattle.form.specs.declared.Form.TheVariants.{First, Second}
 use Rattle.form.specs.Form.{form_in, layouts, turned, sheet_of}
 use Rattle.form.specs.Form as form
 use Rattle.form.specs.Refusals.{open_table, sheet_refusal}
-use Rattle.form.specs.SheetA.{sheet_a, flown_a}
+use Rattle.form.proofs.SheetA.{sheet_a, flown_a}
 use Rattle.judging.specs.Judgement.{Judgement, refused_for, judgement}
 use Rattle.judgement.specs.SheetA.{first_written, second_written}
 use Rattle.review.specs.declared.Review.{Review}

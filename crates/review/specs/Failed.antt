@@ -20,9 +20,9 @@ use Rattle.meaning.specs.Kinds.{holds, total}
 use Rattle.meaning.specs.Moves.{verdict_length, verdicts_of}
 use Rattle.meaning.proofs.Holds.{failed_zero, total-zero, verdict_says}
 use Rattle.form.specs.Form.{form_in, contents_by}
-use Rattle.form.specs.ContentsLaws.{valid_contents}
+use Rattle.form.proofs.ContentsLaws.{valid_contents}
 use Rattle.form.specs.Refusals.{refusal_by}
-use Rattle.form.specs.Accepted.{accepted}
+use Rattle.form.proofs.AcceptedLaws.{accepted}
 use Rattle.judging.specs.Judgement.{Judgement, plan_held, judged, refused_for, judgement}
 use Rattle.judging.specs.JudgementLaws.{judgement-code}
 use Rattle.judgement.specs.Promise.{code, total_of, constraint_count}

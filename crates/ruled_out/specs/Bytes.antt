@@ -3,7 +3,7 @@
 use Rattle.std.specs.Prelude.{ℕ, List}
 use Rattle.form.specs.declared.Form.TheVariants.{First}
 use Rattle.form.specs.Form.{sheet_of}
-use Rattle.form.specs.SheetA.{sheet_a}
+use Rattle.form.proofs.SheetA.{sheet_a}
 
 -- sheet A's five blocks
 abbrev pub bytes_a : List ℕ

@@ -7,7 +7,7 @@ use Rattle.meaning.specs.Plan.{Plan, edges_of}
 use Rattle.meaning.specs.Joined.{take_in, take_every, labels}
 use Rattle.meaning.specs.Kinds.{ncc, load}
 use Rattle.meaning.specs.Names.{Renaming, name, renamed}
-use Rattle.form.specs.SheetA.{sheet_a}
+use Rattle.form.proofs.SheetA.{sheet_a}
 use Rattle.judging.specs.Judgement.{plan_held}
 
 -- sheet A's plan

@@ -9,7 +9,7 @@ use Rattle.blocks.specs.Block.{header, body, block_of, first_wrong, wrong}
 use Rattle.blocks.specs.Shown.{Extent, no_part, payload_part, PartOf}
 use Rattle.form.specs.Form.{form_in, layouts, turned, numbers, sheet_of, head_in}
 use Rattle.form.specs.Refusals.{open_table}
-use Rattle.form.specs.SheetA.{sheet_a}
+use Rattle.form.proofs.SheetA.{sheet_a}
 use Rattle.sheet.specs.Showing.{there, past_end, next_place, sound, shown_part, shown, Promise}
 use Rattle.reader.specs.declared.Reader.{Reader}
 use Rattle.reader.specs.Kept.{reader_at, Keeps}

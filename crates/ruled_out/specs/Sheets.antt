@@ -13,7 +13,7 @@ use Rattle.refusals.specs.Table.{refused, refusal}
 use Rattle.blocks.specs.Block.{block_length, header, body, block_of, first_wrong, wrong}
 use Rattle.form.specs.Form.{form_in, layouts, turned, numbers, sheet_of, head_in}
 use Rattle.form.specs.Refusals.{open_table, held_table, sheet_refusal}
-use Rattle.form.specs.SheetA.{sheet_a}
+use Rattle.form.proofs.SheetA.{sheet_a}
 use Rattle.judging.specs.Judgement.{Judgement, refused_for, judgement}
 use Rattle.judgement.specs.Promise.{code, place, total_of, constraint_count, verdict_at, holds, violation, Promise}
 use Rattle.judgement.specs.SheetA.{first_written}

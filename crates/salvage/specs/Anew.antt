@@ -10,7 +10,7 @@ use Rattle.form.specs.Form.{form_in, Contents, coloured, head_in, contents_in}
 use Rattle.form.specs.Firsts.{colouring_first, count_first}
 use Rattle.form.specs.Refusals.{open_table}
 use Rattle.form.specs.Accepted.{Opened}
-use Rattle.form.specs.Recoloured.{size_recoloured, before_recoloured, after_recoloured, head_recoloured, form_recoloured, open_recoloured, contents_recoloured}
+use Rattle.form.proofs.RecolouredLaws.{size_recoloured, before_recoloured, after_recoloured, head_recoloured, form_recoloured, open_recoloured, contents_recoloured}
 use Rattle.mending.specs.MendedLaws.{mended-kept}
 use Rattle.salvage.specs.Surviving.{survives, survivors, mended_in}
 use Rattle.salvage.specs.SurvivingLaws.{length-survivors, survives-kept, mended-coloured}

@@ -16,8 +16,9 @@ use Rattle.form.specs.declared.Form.{Form}
 use Rattle.form.specs.declared.Head.{Head}
 use Rattle.form.specs.Form.{colouring_layout, dues, head_in, contents_in}
 use Rattle.form.specs.FormLaws.{HeadLimits}
-use Rattle.form.specs.Firsts.{colouring_first, count_first, blocks_all, some_colouring}
-use Rattle.form.specs.ContentsLaws.{counted_in}
+use Rattle.form.specs.Firsts.{colouring_first, count_first}
+use Rattle.form.proofs.FirstLaws.{blocks_all, some_colouring}
+use Rattle.form.proofs.ContentsLaws.{counted_in}
 use Rattle.salvage.specs.Surviving.{block_of_region, sound_at, survives, survivors}
 
 -- the sector of region v where its block, the first of the colouring or the last, is sound and it is one of 1..S; else 0

@@ -17,7 +17,8 @@ use Rattle.form.specs.declared.Head.{Head}
 use Rattle.form.specs.Form.{dues, head_in, contents_in}
 use Rattle.form.specs.Firsts.{colouring_first, count_first}
 use Rattle.form.specs.Refusals.{fault, open_table, contents_refusal}
-use Rattle.form.specs.Accepted.{fault-rows, Opened, open_passed}
+use Rattle.form.specs.Accepted.{Opened}
+use Rattle.form.proofs.AcceptedLaws.{fault-rows, open_passed}
 use Rattle.holding.specs.Held.{contents_held}
 use Rattle.salvage.specs.Promise.{fault_between, other_table}
 

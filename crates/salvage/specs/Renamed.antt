@@ -19,7 +19,7 @@ use Rattle.form.specs.declared.Form.{Form}
 use Rattle.form.specs.declared.Head.{Head}
 use Rattle.form.specs.Form.{letters, colouring_layout, dues, head_in, contents_of, contents_in}
 use Rattle.form.specs.Firsts.{colouring_first, count_first}
-use Rattle.form.specs.Renamed.{RenamedSheet, refused-renamed, head_renamed, contents-renamed, open_renamed}
+use Rattle.form.proofs.Renamed.{RenamedSheet, refused-renamed, head_renamed, contents-renamed, open_renamed}
 use Rattle.mending.specs.Mended.{lost}
 use Rattle.mending.specs.Renamed.{KeptBeside, lost_mapped, mended_mapped, all_mapped}
 use Rattle.salvage.specs.Surviving.{block_of_region, sound_at, survives, survivors, mended_in}

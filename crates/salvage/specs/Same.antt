@@ -13,9 +13,11 @@ use Rattle.blocks.specs.SheetLaws.{none-wrong}
 use Rattle.form.specs.declared.Form.{Form}
 use Rattle.form.specs.declared.Head.{Head}
 use Rattle.form.specs.Form.{letters, dues, head_in, contents_of, contents_in}
-use Rattle.form.specs.ContentsLaws.{valid_contents}
-use Rattle.form.specs.Accepted.{Accepted, accepted-none, rows_passed}
-use Rattle.form.specs.Recoloured.{recoloured_sheet, recoloured_same}
+use Rattle.form.proofs.ContentsLaws.{valid_contents}
+use Rattle.form.specs.Accepted.{Accepted}
+use Rattle.form.proofs.AcceptedLaws.{accepted-none, rows_passed}
+use Rattle.form.specs.Recoloured.{recoloured_sheet}
+use Rattle.form.proofs.RecolouredLaws.{recoloured_same}
 use Rattle.form.specs.Over.{over}
 use Rattle.mending.specs.Mended.{lost}
 use Rattle.salvage.specs.Surviving.{block_of_region, sound_at, survives, survivors}

@@ -11,7 +11,7 @@ use Rattle.blocks.specs.Block.{header, body, block_of, first_wrong, wrong}
 use Rattle.form.specs.declared.Form.TheVariants.{First, Second}
 use Rattle.form.specs.Form.{coloured, form_in, layouts, turned, numbers, sheet_of, head_in, contents_of, contents_in}
 use Rattle.form.specs.Refusals.{open_table, held_table, sheet_refusal}
-use Rattle.form.specs.SheetA.{sheet_a, flown_a}
+use Rattle.form.proofs.SheetA.{sheet_a, flown_a}
 use Rattle.mending.specs.Mended.{lost, joins, lowest_beside, sector_given, mended}
 use Rattle.salvage.specs.Surviving.{sound_at, survives, survivors}
 use Rattle.salvage.specs.Promise.{other_table, salvage_refusal, salvaged_sheet}

@@ -13,8 +13,9 @@ use Rattle.form.specs.declared.Form.{Form}
 use Rattle.form.specs.Form.{kind_count, dues, head_in, contents_in}
 use Rattle.form.specs.Firsts.{colouring_first, count_first}
 use Rattle.form.specs.Refusals.{open_table, held_table, contents_refusal, sheet_refusal}
-use Rattle.form.specs.Accepted.{fault-rows, Opened, opened, accepted, accepted-none, rows_none}
-use Rattle.form.specs.Recoloured.{later_recoloured}
+use Rattle.form.specs.Accepted.{Opened}
+use Rattle.form.proofs.AcceptedLaws.{fault-rows, opened, accepted, accepted-none, rows_none}
+use Rattle.form.proofs.RecolouredLaws.{later_recoloured}
 use Rattle.salvage.specs.Surviving.{mended_in}
 use Rattle.salvage.specs.SurvivingLaws.{mended-coloured}
 use Rattle.salvage.specs.Promise.{fault_between, other_table, last_rows, salvage_refusal, salvaged_sheet}

@@ -18,13 +18,15 @@ use Rattle.blocks.specs.Layout.{blocks_at, length_blocks}
 use Rattle.form.specs.declared.Form.{Form}
 use Rattle.form.specs.declared.Head.{Head}
 use Rattle.form.specs.Form.{letters, colouring_layout, dues, Contents, coloured, form_in, head_in, contents_in}
-use Rattle.form.specs.FormLaws.{four_letters, laid_ones}
-use Rattle.form.specs.Firsts.{colouring_first, blocks_all}
+use Rattle.form.proofs.FormLaws.{four_letters, laid_ones}
+use Rattle.form.specs.Firsts.{colouring_first}
+use Rattle.form.proofs.FirstLaws.{blocks_all}
 use Rattle.form.specs.Over.{over, put_front, put-over-front}
 use Rattle.form.specs.Recoloured.{recoloured_sheet}
-use Rattle.form.specs.ContentsLaws.{counted_in, valid_contents}
+use Rattle.form.proofs.ContentsLaws.{counted_in, valid_contents}
 use Rattle.form.specs.Refusals.{open_table, contents_refusal}
-use Rattle.form.specs.Accepted.{Opened, open_passed}
+use Rattle.form.specs.Accepted.{Opened}
+use Rattle.form.proofs.AcceptedLaws.{open_passed}
 use Rattle.holding.specs.Held.{contents_held}
 use Rattle.mending.specs.Mended.{lost, mended}
 use Rattle.salvage.specs.declared.Salvaged.{Salvaged}

@@ -15,8 +15,9 @@ use Rattle.blocks.specs.Placed.{number_at}
 use Rattle.form.specs.declared.Form.{Form}
 use Rattle.form.specs.declared.Head.{Head}
 use Rattle.form.specs.Form.{colouring_layout, layouts, dues, head_in, contents_of, contents_in}
-use Rattle.form.specs.FormLaws.{laid_ones}
-use Rattle.form.specs.Firsts.{colouring_first, count_first, blocks_all}
+use Rattle.form.proofs.FormLaws.{laid_ones}
+use Rattle.form.specs.Firsts.{colouring_first, count_first}
+use Rattle.form.proofs.FirstLaws.{blocks_all}
 use Rattle.form.specs.Accepted.{Opened}
 use Rattle.form.specs.Recoloured.{ColouringOf}
 use Rattle.mending.specs.MendedLaws.{length-mended, mended_in_lem}

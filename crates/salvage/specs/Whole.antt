@@ -17,9 +17,10 @@ use Rattle.blocks.specs.SheetLaws.{none-wrong, wrong-none}
 use Rattle.form.specs.declared.Form.{Form}
 use Rattle.form.specs.declared.Head.{Head}
 use Rattle.form.specs.Form.{letters, dues, head_in, contents_in}
-use Rattle.form.specs.ContentsLaws.{counted_in}
+use Rattle.form.proofs.ContentsLaws.{counted_in}
 use Rattle.form.specs.Firsts.{colouring_first, count_first}
-use Rattle.form.specs.Accepted.{Opened, Accepted, accepted}
+use Rattle.form.specs.Accepted.{Opened, Accepted}
+use Rattle.form.proofs.AcceptedLaws.{accepted}
 use Rattle.mending.specs.Mended.{lost}
 use Rattle.mending.specs.MendedLaws.{lost_listed, lost-none, mended-same}
 use Rattle.salvage.specs.Surviving.{block_of_region, sound_at, survives, survivors, mended_in}

@@ -18,8 +18,9 @@ use Rattle.form.specs.declared.Form.{Form}
 use Rattle.form.specs.declared.Form.TheVariants.{First, Second}
 use Rattle.form.specs.declared.Head.{Head}
 use Rattle.form.specs.Form.{head_length, flight_count, head_widths, head_layout, head_from, head_in}
-use Rattle.form.specs.FormLaws.{longest_head, few_head, head_widths_lem, laid_head}
-use Rattle.form.specs.ContentsLaws.{head_block}
+use Rattle.form.specs.FormLaws.{longest_head}
+use Rattle.form.proofs.FormLaws.{few_head, head_widths_lem, laid_head}
+use Rattle.form.proofs.ContentsLaws.{head_block}
 use Rattle.form.specs.Refusals.{flights_right}
 
 -- ---- reading it

@@ -15,7 +15,7 @@ use Rattle.form.specs.declared.Head.{Head}
 use Rattle.form.specs.Form.{letters, most_blocks, form_in, head_widths, dues, head_in}
 use Rattle.form.specs.FormLaws.{HeadLimits}
 use Rattle.form.specs.Refusals.{fault, length_right, head_table, head_fault, open_table}
-use Rattle.form.specs.Accepted.{passed_head}
+use Rattle.form.proofs.AcceptedLaws.{passed_head}
 
 -- head numbers that are not refused are within the limits
 pub head_limits : (f : Form) {h : Head} {r : Refusal} → r ≡ refusal (head_table f h) → r.code ≡ 0 → HeadLimits f h

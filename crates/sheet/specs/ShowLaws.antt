@@ -17,10 +17,11 @@ use Rattle.blocks.specs.Shown.{Extent, bytes_in, no_part, payload_part, PartOf, 
 use Rattle.form.specs.declared.Head.{Head}
 use Rattle.form.specs.declared.Form.{Form}
 use Rattle.form.specs.Form.{letters, form_in, dues, head_in, head_by}
-use Rattle.form.specs.FormLaws.{small_form}
-use Rattle.form.specs.Firsts.{some_blocks}
+use Rattle.form.proofs.FormLaws.{small_form}
+use Rattle.form.proofs.FirstLaws.{some_blocks}
 use Rattle.form.specs.Refusals.{open_table}
-use Rattle.form.specs.Accepted.{Opened, opened, opened_blocks}
+use Rattle.form.specs.Accepted.{Opened}
+use Rattle.form.proofs.AcceptedLaws.{opened, opened_blocks}
 use Rattle.sheet.specs.Showing.{dues_in, due_at, there, past_end, next_place, sound, shown_part, shown, Promise}
 
 -- block n is one of those due of an opened sheet

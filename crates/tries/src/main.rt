@@ -3,35 +3,45 @@
 // What is said is the name and the call's answer: code, place, first total, last total; or, where rows are shown, for each of them the name and the row.
 #![tactic(auto)]
 
-use bytes::scan::find;
-use libc::STDIN_FILENO;
+ghost use Rattle.std.specs.Prelude.{◌≤◌, length};
+
+use input::read_full;
+use std::io;
 
 mod saying; // saying.rt: answers and rows as text
 mod numbers; // numbers.rt: the lists of numbers in a line
 mod trying; // trying.rt: the call that a line asks for
 
+// The most bytes of the input that are read.
+const MOST_INPUT: usize = 65_536;
+
+// Where a byte first stands in a text, or where the text ends.
+fn find(text: &[u8], byte: u8) -> usize
+    ensures { result ≤ length text.now }
+{
+    text.iter().position(|b| *b == byte).unwrap_or(text.len())
+}
+
 // Makes the call of a line; a line without a colon has none.
-fn try_line(line: &[u8]) {
-    let end = find(line, 0, line.len(), b'#');
-    let colon = find(line, 0, end, b':');
+fn try_line(rt: &impl Print, line: &[u8]) -> io::Result<()> {
+    let end = find(line, b'#');
+    let colon = find(&line[..end], b':');
     if end <= colon {
-        return;
+        return Ok(());
     }
     let after = colon + 1;
-    trying::try_call(&line[..after], &line[after..end]);
+    trying::try_call(rt, &line[..after], &line[after..end])
 }
 
-fn try_lines(text: &[u8]) {
-    let mut at = 0;
-    while at < text.len() {
-        let end = find(text, at, text.len(), b'\n');
-        try_line(&text[at..end]);
-        at = end + 1;
+fn try_lines(rt: &impl Print, text: &[u8]) -> io::Result<()> {
+    for line in text.split(|byte| *byte == b'\n') {
+        try_line(rt, line)?;
     }
+    Ok(())
 }
 
-fn main() {
-    let mut input = io::large_buffer();
-    let read = io::read_full(STDIN_FILENO, &mut input);
-    try_lines(&input[..read]);
+fn main(rt: HostRuntime) -> io::Result<()> {
+    let mut input = [0u8; MOST_INPUT];
+    let read = read_full(&mut rt.stdin(), &mut input);
+    try_lines(&rt, &input[..read])
 }

@@ -1,65 +1,63 @@
 // Answers and rows as text.
 use call::Answer;
-use libc::STDOUT_FILENO;
+use std::io;
 use terms::limits::ROW_LENGTH;
 
-fn say(text: &[u8]) {
-    io::write_all(STDOUT_FILENO, text);
+fn say(rt: &impl Print, text: &[u8]) -> io::Result<()> {
+    rt.write_all(text)
 }
 
-fn say_number(n: u64) {
-    say(b" ");
-    io::print_decimal(STDOUT_FILENO, n);
+fn say_number(rt: &impl Print, n: u64) -> io::Result<()> {
+    print!(rt; " {n}")
 }
 
-fn say_signed(n: i64) {
-    if 0 <= n {
-        say_number(n as u64);
-        return;
+fn say_signed(rt: &impl Print, n: i64) -> io::Result<()> {
+    print!(rt; " {n}")
+}
+
+fn say_answer(rt: &impl Print, name: &[u8], answer: Answer) -> io::Result<()> {
+    say(rt, name)?;
+    say_number(rt, answer.code)?;
+    say_number(rt, answer.place)?;
+    say_number(rt, answer.first)?;
+    say_number(rt, answer.last)?;
+    say(rt, b"\n")
+}
+
+fn say_row(rt: &impl Print, name: &[u8], row: &[i64]) -> io::Result<()> {
+    say(rt, name)?;
+    for n in row {
+        say_signed(rt, *n)?;
     }
-    say(b" -");
-    io::print_decimal(STDOUT_FILENO, (-1 - n) as u64 + 1);
-}
-
-fn say_answer(name: &[u8], answer: Answer) {
-    say(name);
-    say_number(answer.code);
-    say_number(answer.place);
-    say_number(answer.first);
-    say_number(answer.last);
-    say(b"\n");
-}
-
-fn say_row(name: &[u8], row: &[i64]) {
-    say(name);
-    let mut i = 0;
-    while i < row.len() {
-        say_signed(row[i]);
-        i += 1;
-    }
-    say(b"\n");
+    say(rt, b"\n")
 }
 
 // The first rows, as far as there are so many, a line each.
-fn say_rows(name: &[u8], rows: &[i64], count: usize) {
+fn say_rows(rt: &impl Print, name: &[u8], rows: &[i64], count: usize) -> io::Result<()> {
     let mut k = 0;
     let mut at = 0;
     while k < count {
         let end = at + ROW_LENGTH;
         if rows.len() < end {
-            return;
+            return Ok(());
         }
-        say_row(name, &rows[at..end]);
+        say_row(rt, name, &rows[at..end])?;
         at = end;
         k += 1;
     }
+    Ok(())
 }
 
 // The first rows where some are shown, else the answer.
-pub fn say_outcome(name: &[u8], answer: Answer, rows: &[i64], shown: usize) {
+pub fn say_outcome(
+    rt: &impl Print,
+    name: &[u8],
+    answer: Answer,
+    rows: &[i64],
+    shown: usize,
+) -> io::Result<()> {
     if shown == 0 {
-        say_answer(name, answer);
-        return;
+        return say_answer(rt, name, answer);
     }
-    say_rows(name, rows, shown);
+    say_rows(rt, name, rows, shown)
 }

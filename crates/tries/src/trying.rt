@@ -3,6 +3,7 @@ ghost use Rattle.std.specs.Prelude.{◌≤◌};
 
 use crate::numbers::{END, MOST_HELD, hold, list, number};
 use crate::saying::say_outcome;
+use std::io;
 
 // The most numbers of each list that a call may change.
 const MOST_ROOM: usize = 64;
@@ -55,6 +56,7 @@ fn put(from: &[u64], to: &mut [u64]) {
 
 // Makes a call with so much room for verdicts and work memory, and says what comes of it.
 fn call_with(
+    rt: &impl Print,
     name: &[u8],
     regions: u64,
     sectors: u64,
@@ -70,7 +72,7 @@ fn call_with(
     verdicts: usize,
     work: usize,
     shown: usize,
-)
+) -> io::Result<()>
     requires { (verdicts ≤ 64) × (work ≤ 64) }
 {
     let mut verdict = [0u64; MOST_ROOM];
@@ -90,12 +92,19 @@ fn call_with(
         &mut verdict[..verdicts],
         &mut memory[..work],
     );
-    say_outcome(name, answer, rows, shown);
+    say_outcome(rt, name, answer, rows, shown)
 }
 
 // Makes the call whose lists are held, on a colouring and with room for rows.
-fn call_held(name: &[u8], held: &[u64], colouring: &mut [u64], rows: &mut [i64]) {
+fn call_held(
+    rt: &impl Print,
+    name: &[u8],
+    held: &[u64],
+    colouring: &mut [u64],
+    rows: &mut [i64],
+) -> io::Result<()> {
     call_with(
+        rt,
         name,
         number(held, HEAD, 0),
         number(held, HEAD, 1),
@@ -111,22 +120,22 @@ fn call_held(name: &[u8], held: &[u64], colouring: &mut [u64], rows: &mut [i64])
         in_room(number(held, ROOM, 1)),
         in_room(number(held, ROOM, 2)),
         in_room(number(held, SHOWN, 0)),
-    );
+    )
 }
 
-fn try_held(name: &[u8], held: &[u64]) {
+fn try_held(rt: &impl Print, name: &[u8], held: &[u64]) -> io::Result<()> {
     let given = list(held, COLOURING);
     let regions = in_room(given.len() as u64);
     let room = in_room(number(held, ROOM, 0));
     let mut colouring = [0u64; MOST_ROOM];
     let mut rows = [0i64; MOST_ROOM];
     put(given, &mut colouring);
-    call_held(name, held, &mut colouring[..regions], &mut rows[..room]);
+    call_held(rt, name, held, &mut colouring[..regions], &mut rows[..room])
 }
 
 // Makes the call of a line, whose name ends where its lists start.
-pub fn try_call(name: &[u8], lists: &[u8]) {
+pub fn try_call(rt: &impl Print, name: &[u8], lists: &[u8]) -> io::Result<()> {
     let mut held = [END; MOST_HELD];
     hold(lists, &mut held);
-    try_held(name, &held);
+    try_held(rt, name, &held)
 }

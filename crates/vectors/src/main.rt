@@ -8,8 +8,8 @@ ghost use Rattle.blocks.specs.Block.{block_length};
 
 use blocks::check::{Sums, sums_of};
 use blocks::{BLOCK_LENGTH, CHECKED_LENGTH, HEADER_LENGTH};
-use libc::STDOUT_FILENO;
 use sheet::showing::block;
+use std::io;
 use writing::{Written, write, write_second};
 
 const WORKLOADS: [u64; 5] = [10, 20, 30, 25, 15];
@@ -31,77 +31,74 @@ const FLOWN_CONSTRAINTS: [u64; 20] = [
     1, 3, 2, 100, 2, 1, 5, 1, 3, 1, 40, 2, 4, 1, 55, 3, 5, 6, 60, 2,
 ];
 
-fn say(text: &[u8]) {
-    io::write_all(STDOUT_FILENO, text);
+fn say(rt: &impl Print, text: &[u8]) -> io::Result<()> {
+    rt.write_all(text)
 }
 
-fn say_number(n: u64) {
-    say(b" ");
-    io::print_decimal(STDOUT_FILENO, n);
+fn say_number(rt: &impl Print, n: u64) -> io::Result<()> {
+    print!(rt; " {n}")
 }
 
-fn say_byte(byte: u8) {
-    say(b" ");
-    io::print_hex(STDOUT_FILENO, byte as u64, 2);
+fn say_byte(rt: &impl Print, byte: u8) -> io::Result<()> {
+    print!(rt; " {byte:02x}")
 }
 
-fn say_bytes(bytes: &[u8]) {
-    let mut i = 0;
-    while i < bytes.len() {
-        say_byte(bytes[i]);
-        i += 1;
+fn say_bytes(rt: &impl Print, bytes: &[u8]) -> io::Result<()> {
+    for byte in bytes {
+        say_byte(rt, *byte)?;
     }
+    Ok(())
 }
 
-fn say_sums(name: &[u8], sums: Sums) {
-    say(name);
-    say_number(sums.first as u64);
-    say_number(sums.second as u64);
-    say(b"\n");
+fn say_sums(rt: &impl Print, name: &[u8], sums: Sums) -> io::Result<()> {
+    say(rt, name)?;
+    say_number(rt, sums.first as u64)?;
+    say_number(rt, sums.second as u64)?;
+    say(rt, b"\n")
 }
 
-fn say_written(name: &[u8], written: Written) {
-    say(name);
-    say_number(written.code);
-    say_number(written.place);
-    say_number(written.bytes);
-    say(b"\n");
+fn say_written(rt: &impl Print, name: &[u8], written: Written) -> io::Result<()> {
+    say(rt, name)?;
+    say_number(rt, written.code)?;
+    say_number(rt, written.place)?;
+    say_number(rt, written.bytes)?;
+    say(rt, b"\n")
 }
 
-fn say_block(sheet: &[u8], number: usize)
+fn say_block(rt: &impl Print, sheet: &[u8], number: usize) -> io::Result<()>
     requires { block_length * number + block_length ≤ length sheet.now }
 {
     let start = BLOCK_LENGTH * number;
     let payload_at = start + HEADER_LENGTH;
     let check_at = start + CHECKED_LENGTH;
     let end = start + BLOCK_LENGTH;
-    say(b"block");
-    say_number(number as u64);
-    say(b":");
-    say_bytes(&sheet[start..payload_at]);
-    say(b",");
-    say_bytes(block(sheet, number));
-    say(b",");
-    say_bytes(&sheet[check_at..end]);
-    say(b"\n");
+    say(rt, b"block")?;
+    say_number(rt, number as u64)?;
+    say(rt, b":")?;
+    say_bytes(rt, &sheet[start..payload_at])?;
+    say(rt, b",")?;
+    say_bytes(rt, block(sheet, number))?;
+    say(rt, b",")?;
+    say_bytes(rt, &sheet[check_at..end])?;
+    say(rt, b"\n")
 }
 
 // The published sums, and those of few bytes and of many, where a sum comes to 255 and so to 0.
-fn fletcher_lines() {
-    say_sums(b"abcde:", sums_of(b"abcde"));
-    say_sums(b"abcdef:", sums_of(b"abcdef"));
-    say_sums(b"abcdefgh:", sums_of(b"abcdefgh"));
-    say_sums(b"no byte:", sums_of(&[]));
-    say_sums(b"a byte 254:", sums_of(&[254]));
-    say_sums(b"a byte 255:", sums_of(&[255]));
-    say_sums(b"bytes 254 and 1:", sums_of(&[254, 1]));
-    say_sums(b"255 bytes 1:", sums_of(&[1; 255]));
-    say_sums(b"255 bytes 255:", sums_of(&[255; 255]));
-    say_sums(b"510 bytes 255:", sums_of(&[255; CHECKED_LENGTH]));
+fn fletcher_lines(rt: &impl Print) -> io::Result<()> {
+    say_sums(rt, b"abcde:", sums_of(b"abcde"))?;
+    say_sums(rt, b"abcdef:", sums_of(b"abcdef"))?;
+    say_sums(rt, b"abcdefgh:", sums_of(b"abcdefgh"))?;
+    say_sums(rt, b"no byte:", sums_of(&[]))?;
+    say_sums(rt, b"a byte 254:", sums_of(&[254]))?;
+    say_sums(rt, b"a byte 255:", sums_of(&[255]))?;
+    say_sums(rt, b"bytes 254 and 1:", sums_of(&[254, 1]))?;
+    say_sums(rt, b"255 bytes 1:", sums_of(&[1; 255]))?;
+    say_sums(rt, b"255 bytes 255:", sums_of(&[255; 255]))?;
+    say_sums(rt, b"510 bytes 255:", sums_of(&[255; CHECKED_LENGTH]))
 }
 
 // The bytes are lent with none zero, so that every zero is written.
-fn sheet_a_lines() {
+fn sheet_a_lines(rt: &impl Print) -> io::Result<()> {
     let mut sheet = [255u8; 5 * BLOCK_LENGTH];
     let written = write(
         5,
@@ -112,15 +109,15 @@ fn sheet_a_lines() {
         &COLOURING,
         &mut sheet,
     );
-    say_written(b"sheet A:", written);
-    say_block(&sheet, 0);
-    say_block(&sheet, 1);
-    say_block(&sheet, 2);
-    say_block(&sheet, 3);
-    say_block(&sheet, 4);
+    say_written(rt, b"sheet A:", written)?;
+    say_block(rt, &sheet, 0)?;
+    say_block(rt, &sheet, 1)?;
+    say_block(rt, &sheet, 2)?;
+    say_block(rt, &sheet, 3)?;
+    say_block(rt, &sheet, 4)
 }
 
-fn second_sheet_lines() {
+fn second_sheet_lines(rt: &impl Print) -> io::Result<()> {
     let mut sheet = [255u8; 8 * BLOCK_LENGTH];
     let written = write_second(
         5,
@@ -134,19 +131,19 @@ fn second_sheet_lines() {
         &COLOURING,
         &mut sheet,
     );
-    say_written(b"sheet A, outside areas and a flight:", written);
-    say_block(&sheet, 0);
-    say_block(&sheet, 1);
-    say_block(&sheet, 2);
-    say_block(&sheet, 3);
-    say_block(&sheet, 4);
-    say_block(&sheet, 5);
-    say_block(&sheet, 6);
-    say_block(&sheet, 7);
+    say_written(rt, b"sheet A, outside areas and a flight:", written)?;
+    say_block(rt, &sheet, 0)?;
+    say_block(rt, &sheet, 1)?;
+    say_block(rt, &sheet, 2)?;
+    say_block(rt, &sheet, 3)?;
+    say_block(rt, &sheet, 4)?;
+    say_block(rt, &sheet, 5)?;
+    say_block(rt, &sheet, 6)?;
+    say_block(rt, &sheet, 7)
 }
 
-fn main() {
-    fletcher_lines();
-    sheet_a_lines();
-    second_sheet_lines();
+fn main(rt: HostRuntime) -> io::Result<()> {
+    fletcher_lines(&rt)?;
+    sheet_a_lines(&rt)?;
+    second_sheet_lines(&rt)
 }

@@ -18,7 +18,7 @@ use Rattle.form.specs.declared.Form.{Form}
 use Rattle.form.specs.declared.Form.TheVariants.{First, Second}
 use Rattle.form.specs.declared.Head.{Head}
 use Rattle.form.specs.Form.{letters, outside_count, head_widths, layouts, dues, turned, head_numbers}
-use Rattle.form.specs.FormLaws.{four_letters, laid_layouts, length-turned}
+use Rattle.form.proofs.FormLaws.{four_letters, laid_layouts, length-turned}
 use Rattle.form.specs.Firsts.{HasBlocks}
 use Rattle.form.specs.Over.{over, put_front}
 

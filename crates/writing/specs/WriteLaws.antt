@@ -12,7 +12,7 @@ use Rattle.form.specs.declared.Form.{Form}
 use Rattle.form.specs.declared.Form.TheVariants.{First, Second}
 use Rattle.form.specs.Form.{outside_count, Contents, head_of, carried, stored, numbers, sheet_of}
 use Rattle.form.specs.FormLaws.{HeadLimits}
-use Rattle.form.specs.ContentsLaws.{Counted, valid_contents, counted_valid, limits_valid}
+use Rattle.form.proofs.ContentsLaws.{Counted, valid_contents, counted_valid, limits_valid}
 use Rattle.form.specs.Refusals.{contents_table, contents_refusal}
 use Rattle.writing.specs.declared.Written.{Written}
 use Rattle.writing.specs.Promise.{sheet_bytes, write_refusal, Outcome, refused_answer, outcome, Promise, left}

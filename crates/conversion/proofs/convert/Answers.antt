@@ -1,6 +1,6 @@
 -- The sheet is refused, or what is lent is too short, or the new form doesn't carry the contents, or what is held is put down as a sheet of the new form: a law says of each way that it is the outcome.
 use native.Mathlib.Omega.{arith}
-use Rattle.form.specs.FormLaws.{few_either}
+use Rattle.form.proofs.FormLaws.{few_either}
 use Rattle.holding.specs.HeldLaws.{holds_head, holds-bounded, holds-taken}
 use Rattle.conversion.specs.ConvertLaws.{Measured, carried-limits, measured, promise_refused, promise_short, promise_uncarried, sheet_room, promise_converted}
 use Rattle.conversion.proofs.convert.Goals as goal

@@ -1,5 +1,5 @@
 -- The outside areas are all 0 where they add up to 0, the flights are as many as the head says, and of constraints that the second sheet takes those that the first takes have a kind up to 4.
-use Rattle.form.specs.ContentsLaws.{Counted}
+use Rattle.form.proofs.ContentsLaws.{Counted}
 use Rattle.form.specs.Form.{Contents}
 use Rattle.holding.specs.Held.{contents_held}
 use Rattle.holding.specs.HeldLaws.{counted_held}

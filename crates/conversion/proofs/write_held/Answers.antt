@@ -1,7 +1,8 @@
 -- The lists that are held have as many of each as the head says; of the outside areas those are put down that the form has.
 use mathlib.Core.Path.{sym, ap, ◌∙◌}
 use lib.ListN.{length}
-use Rattle.form.specs.FormLaws.{Bounded, bounded}
+use Rattle.form.specs.FormLaws.{Bounded}
+use Rattle.form.proofs.FormLaws.{bounded}
 use Rattle.holding.specs.HeldLaws.{counted_held}
 use Rattle.holding.specs.Held.{contents_held}
 use Rattle.conversion.specs.ConvertLaws.{length_front, same_lists, held_many, held_sheet}

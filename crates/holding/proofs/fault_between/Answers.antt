@@ -2,8 +2,8 @@
 use native.Mathlib.Omega.{arith}
 use mathlib.Core.Path.{◌∙◌}
 use Rattle.form.specs.Form.{layouts}
-use Rattle.form.specs.FormLaws.{four_letters}
-use Rattle.form.specs.Listed.{listed, listed_dues}
+use Rattle.form.proofs.FormLaws.{four_letters}
+use Rattle.form.proofs.ListedLaws.{listed, listed_dues}
 use Rattle.holding.proofs.fault_between.Goals as goal
 
 pub first_fault-requires : goal.first_fault-requires

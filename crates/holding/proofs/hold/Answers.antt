@@ -1,9 +1,10 @@
 -- Each way out is the first row of the table that is given; where no block is refused, what was read decides, and it is the contents.
 use native.Mathlib.Omega.{arith}
 use mathlib.Core.Path.{refl}
-use Rattle.form.specs.Accepted.{Opened, opened_by, opened_blocks}
-use Rattle.form.specs.Firsts.{some_blocks}
-use Rattle.form.specs.FormLaws.{bounded}
+use Rattle.form.specs.Accepted.{Opened}
+use Rattle.form.proofs.AcceptedLaws.{opened_by, opened_blocks}
+use Rattle.form.proofs.FirstLaws.{some_blocks}
+use Rattle.form.proofs.FormLaws.{bounded}
 use Rattle.holding.specs.HoldLaws.{holds_shut, holds_faulty, holds_read}
 use Rattle.holding.proofs.hold.Goals as goal
 use Rattle.holding.proofs.hold.Goals.{Else-refusal-ne0}

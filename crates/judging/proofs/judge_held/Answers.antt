@@ -3,7 +3,7 @@ use native.Mathlib.Omega.{arith}
 use mathlib.Core.Path.{sym, ap}
 use lib.ListN.{length}
 use lib.Seq.{length-take-le}
-use Rattle.form.specs.ContentsLaws.{Counted}
+use Rattle.form.proofs.ContentsLaws.{Counted}
 use Rattle.holding.specs.Held.{contents_held}
 use Rattle.holding.specs.HeldLaws.{counted_held}
 use Rattle.judging.specs.NoMoves.{front_of, judges_lists}

@@ -2,7 +2,7 @@
 use Prim.Native.Nat.{ℕ}
 use mathlib.Core.Path.{◌∙◌, ap}
 use mathlib.Core.List.{List}
-use Rattle.form.specs.ContentsLaws.{Counted}
+use Rattle.form.proofs.ContentsLaws.{Counted}
 use Rattle.form.specs.Over.{over}
 use Rattle.holding.specs.Held.{contents_held}
 use Rattle.holding.specs.HeldLaws.{counted_held}

@@ -5,9 +5,10 @@ use mathlib.Core.List.{◌++◌}
 use lib.ListN.{length, take, drop}
 use Rattle.lists.specs.Fronts.{zeros, back_room, take_back, back_length}
 use Rattle.meaning.specs.Plan.{most_regions}
-use Rattle.form.specs.FormLaws.{Bounded, bounded}
-use Rattle.form.specs.Firsts.{some_blocks}
-use Rattle.form.specs.Accepted.{opened_blocks}
+use Rattle.form.specs.FormLaws.{Bounded}
+use Rattle.form.proofs.FormLaws.{bounded}
+use Rattle.form.proofs.FirstLaws.{some_blocks}
+use Rattle.form.proofs.AcceptedLaws.{opened_blocks}
 use Rattle.salvage.specs.Surviving.{survivors}
 use Rattle.salvage.specs.Steps.{held-colouring, others_mendable, regions_room, regions_lent, promise_short, promise_crowded, promise_salvaged}
 use Rattle.salvage.proofs.salvage_held.Goals as goal

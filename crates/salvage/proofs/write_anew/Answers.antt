@@ -1,6 +1,6 @@
 -- The sheet is copied to the front of the lent bytes, and the colouring's blocks are written there.
 use native.Mathlib.Omega.{arith}
-use Rattle.form.specs.Accepted.{opened_blocks}
+use Rattle.form.proofs.AcceptedLaws.{opened_blocks}
 use Rattle.salvage.specs.Steps.{written_anew}
 use Rattle.salvage.proofs.write_anew.Goals as goal
 

@@ -1,6 +1,6 @@
 -- The lent bytes are too few for the blocks and stay as they are, or the sheet is put down at their front.
 use native.Mathlib.Omega.{arith}
-use Rattle.form.specs.FormLaws.{few_either}
+use Rattle.form.proofs.FormLaws.{few_either}
 use Rattle.writing.specs.Roomy.{puts_short, puts_enough}
 use Rattle.writing.proofs.write_where_room.Goals as goal
 

@@ -2,7 +2,7 @@
 use mathlib.Core.Path.{◌∙◌, ap}
 use lib.ListN.{length}
 use Rattle.form.specs.Form.{layouts}
-use Rattle.form.specs.Listed.{listed, listed_dues}
+use Rattle.form.proofs.ListedLaws.{listed, listed_dues}
 use Rattle.form.proofs.sections.all_blocks.Goals as goal
 
 pub due_count-requires : goal.due_count-requires

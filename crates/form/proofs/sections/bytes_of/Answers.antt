@@ -1,6 +1,6 @@
 -- They are the bytes of each section in turn.
-use Rattle.form.specs.FormLaws.{bounded}
-use Rattle.form.specs.Listed.{bytes_listed}
+use Rattle.form.proofs.FormLaws.{bounded}
+use Rattle.form.proofs.ListedLaws.{bytes_listed}
 use Rattle.form.proofs.sections.bytes_of.Goals as goal
 
 pub count_section-requires : goal.count_section-requires

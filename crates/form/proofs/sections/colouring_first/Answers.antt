@@ -4,7 +4,7 @@ use native.Mathlib.Omega.{arith}
 use Rattle.blocks.specs.Section.{blocks_of}
 use Rattle.blocks.specs.Layout.{blocks_in, laid_whole}
 use Rattle.form.specs.Form.{colouring_layout}
-use Rattle.form.specs.FormLaws.{laid_ones}
+use Rattle.form.proofs.FormLaws.{laid_ones}
 use Rattle.form.proofs.sections.colouring_first.Goals as goal
 use Rattle.form.proofs.sections.colouring_first.Goals.{After-block_count}
 

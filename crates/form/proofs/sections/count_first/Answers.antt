@@ -5,8 +5,9 @@ use native.Mathlib.Omega.{arith}
 use Rattle.blocks.specs.Section.{blocks_of}
 use Rattle.blocks.specs.Layout.{blocks_in, laid_whole}
 use Rattle.form.specs.Form.{count_layout, visit_layout}
-use Rattle.form.specs.FormLaws.{bounded, laid_ones, laid_visits}
-use Rattle.form.specs.Firsts.{count_first, blocks_all}
+use Rattle.form.proofs.FormLaws.{bounded, laid_ones, laid_visits}
+use Rattle.form.specs.Firsts.{count_first}
+use Rattle.form.proofs.FirstLaws.{blocks_all}
 use Rattle.form.proofs.sections.count_first.Goals as goal
 use Rattle.form.proofs.sections.count_first.Goals.{After-block_count, After-block_count-2}
 

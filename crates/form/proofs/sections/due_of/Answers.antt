@@ -5,7 +5,7 @@ use lib.ListN.{get_or}
 use Rattle.blocks.specs.declared.Due.{Due}
 use Rattle.blocks.specs.Section.{no_due}
 use Rattle.form.specs.Form.{layouts}
-use Rattle.form.specs.Listed.{listed, listed_dues}
+use Rattle.form.proofs.ListedLaws.{listed, listed_dues}
 use Rattle.form.proofs.sections.due_of.Goals as goal
 
 pub due_at-requires : goal.due_at-requires

@@ -1,5 +1,5 @@
 -- The head has one block, and it is full.
-use Rattle.form.specs.Listed.{section_head}
+use Rattle.form.proofs.ListedLaws.{section_head}
 use Rattle.form.proofs.sections.head_section.Goals as goal
 
 pub returns : goal.returns

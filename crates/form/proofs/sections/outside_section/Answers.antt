@@ -1,6 +1,6 @@
 -- There are no more outside areas than regions.
 use native.Mathlib.Omega.{arith}
-use Rattle.form.specs.Listed.{few_outside}
+use Rattle.form.proofs.ListedLaws.{few_outside}
 use Rattle.form.proofs.sections.outside_section.Goals as goal
 
 pub overflow_mul-result : goal.overflow_mul-result

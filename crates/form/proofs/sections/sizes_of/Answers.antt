@@ -1,5 +1,5 @@
 -- They are the sizes of the layouts, of which only the head's goes by the form.
-use Rattle.form.specs.Listed.{sizes_listed}
+use Rattle.form.proofs.ListedLaws.{sizes_listed}
 use Rattle.form.proofs.sections.sizes_of.Goals as goal
 
 pub returns : goal.returns

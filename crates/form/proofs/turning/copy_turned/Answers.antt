@@ -2,7 +2,7 @@
 use native.Mathlib.Omega.{arith}
 use mathlib.Core.Path.{refl, sym}
 use lib.Seq.{length-take-le}
-use Rattle.form.specs.Turning.{turned-front}
+use Rattle.form.proofs.TurningLaws.{turned-front}
 use Rattle.form.proofs.turning.copy_turned.Goals as goal
 
 pub slice_bounds-turn-end-2 : goal.slice_bounds-turn-end-2

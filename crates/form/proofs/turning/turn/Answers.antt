@@ -2,7 +2,7 @@
 use Prim.Native.Nat.{◌-◌}
 use native.Mathlib.Omega.{arith}
 use lib.ListN.{length-set}
-use Rattle.form.specs.Turning.{turning_start, turning_more, turning_end}
+use Rattle.form.proofs.TurningLaws.{turning_start, turning_more, turning_end}
 use Rattle.form.proofs.turning.turn.Goals as goal
 
 pub loop-i-init : goal.loop-i-init

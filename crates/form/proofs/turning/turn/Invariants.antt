@@ -1,7 +1,7 @@
 -- After each turn what is turned and what is left to turn make the whole list, turned.
 use Prim.Native.Nat.{◌-◌}
 use lib.ListN.{length}
-use Rattle.form.specs.Turning.{Turning}
+use Rattle.form.proofs.TurningLaws.{Turning}
 use Rattle.form.proofs.turning.turn.Given as goal
 
 abbrev pub invariant-loop-i : goal.invariant-loop-i

@@ -1,6 +1,6 @@
 -- The section's numbers are put down in their place and turned there.
 use native.Mathlib.Omega.{arith}
-use Rattle.form.specs.FormLaws.{bounded, laid_constraints}
+use Rattle.form.proofs.FormLaws.{bounded, laid_constraints}
 use Rattle.holding.specs.ReadLaws.{section_asks, section-read, constraints_read}
 use Rattle.holding.proofs.sections.read_constraints.Goals as goal
 

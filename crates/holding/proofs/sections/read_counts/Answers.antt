@@ -1,6 +1,6 @@
 -- The section has its blocks in the sheet and its room in the list, and its numbers are the visit counts.
 use native.Mathlib.Omega.{arith}
-use Rattle.form.specs.FormLaws.{bounded, laid_ones}
+use Rattle.form.proofs.FormLaws.{bounded, laid_ones}
 use Rattle.holding.specs.ReadLaws.{section_asks, section-read}
 use Rattle.holding.proofs.sections.read_counts.Goals as goal
 

@@ -1,6 +1,6 @@
 -- The section has its blocks in the sheet and its room in the list, and its numbers are those of the edges.
 use native.Mathlib.Omega.{arith}
-use Rattle.form.specs.FormLaws.{bounded, laid_edges}
+use Rattle.form.proofs.FormLaws.{bounded, laid_edges}
 use Rattle.holding.specs.ReadLaws.{section_asks, section-read}
 use Rattle.holding.proofs.sections.read_edges.Goals as goal
 

@@ -1,7 +1,7 @@
 -- The section's numbers go over the zeros that were put down first; where the form stores none, these stay.
 use native.Mathlib.Omega.{arith}
-use Rattle.form.specs.Listed.{few_outside}
-use Rattle.form.specs.FormLaws.{bounded, laid_fours}
+use Rattle.form.proofs.ListedLaws.{few_outside}
+use Rattle.form.proofs.FormLaws.{bounded, laid_fours}
 use Rattle.holding.specs.ReadLaws.{section_asks, section-read, outside_read}
 use Rattle.holding.proofs.sections.read_outside.Goals as goal
 

@@ -1,8 +1,8 @@
 -- The section has its blocks in the sheet and its room in the list, its numbers are those of the visits, and no block comes after it.
 use native.Mathlib.Omega.{arith}
 use mathlib.Core.Path.{sym, ◌∙◌}
-use Rattle.form.specs.Firsts.{blocks_all}
-use Rattle.form.specs.FormLaws.{bounded, laid_visits}
+use Rattle.form.proofs.FirstLaws.{blocks_all}
+use Rattle.form.proofs.FormLaws.{bounded, laid_visits}
 use Rattle.holding.specs.ReadLaws.{section_asks, section-read}
 use Rattle.holding.proofs.sections.read_visits.Goals as goal
 

@@ -1,7 +1,7 @@
 -- The section has its blocks in the sheet and its room in the list, and its numbers are the workloads.
 use native.Mathlib.Omega.{arith}
 use mathlib.Core.Path.{refl}
-use Rattle.form.specs.FormLaws.{laid_fours}
+use Rattle.form.proofs.FormLaws.{laid_fours}
 use Rattle.holding.specs.ReadLaws.{section_asks, section-read}
 use Rattle.holding.proofs.sections.read_workloads.Goals as goal
 

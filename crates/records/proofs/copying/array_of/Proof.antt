@@ -52,7 +52,7 @@ use denote.Triple.Walked.{says, Stays, stay_none_slice, walk_of, Walks, ends_at,
 use denote.Exit.{yes}
 use Rattle.records.specs.declared.Constraint.{Constraint}
 use Rattle.records.specs.Copied.{blank, no_numbers, put_record, put_from, array_of}
-use Rattle.records.specs.CopiedLaws.{put_next, put_end}
+use Rattle.records.proofs.CopiedLaws.{put_next, put_end}
 use Rattle.records.specs.contracts.Constraint as T
 use Rattle.records.proofs.Constraint.TheLaws as T'
 use Rattle.records.specs.contracts.copying.no_numbers as none

@@ -1,6 +1,6 @@
 -- Within the places of the array four stores put the record down, and past them nothing is stored.
 use Rattle.records.specs.Copied.{put_record}
-use Rattle.records.specs.CopiedLaws.{put_four}
+use Rattle.records.proofs.CopiedLaws.{put_four}
 use borrow.Author.Tests.{le-ltb}
 use Rattle.records.proofs.copying.put_record.Goals as goal
 

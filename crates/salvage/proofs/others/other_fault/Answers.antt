@@ -1,6 +1,6 @@
 -- The first fault before the colouring, or else the first after it.
 use native.Mathlib.Omega.{arith}
-use Rattle.form.specs.Firsts.{blocks_all}
+use Rattle.form.proofs.FirstLaws.{blocks_all}
 use Rattle.salvage.specs.Others.{other_early, other_late}
 use Rattle.salvage.proofs.others.other_fault.Goals as goal
 

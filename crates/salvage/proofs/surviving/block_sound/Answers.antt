@@ -2,7 +2,7 @@
 use native.Mathlib.Omega.{arith}
 use Rattle.blocks.specs.SectionLaws.{small_at}
 use Rattle.form.specs.Form.{dues}
-use Rattle.form.specs.FormLaws.{four_letters, small_form}
+use Rattle.form.proofs.FormLaws.{four_letters, small_form}
 use Rattle.salvage.specs.Surviving.{sound_at}
 use Rattle.salvage.proofs.surviving.block_sound.Goals as goal
 

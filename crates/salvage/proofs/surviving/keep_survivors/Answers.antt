@@ -7,7 +7,7 @@ use lib.ListN.{length-set}
 use Rattle.lists.specs.SumLaws.{length_from}
 use Rattle.lists.specs.ListLaws.{drop-up_to}
 use Rattle.lists.specs.Loops.{mapped_start, mapped_turn, mapped_end}
-use Rattle.form.specs.Firsts.{some_colouring, blocks_all}
+use Rattle.form.proofs.FirstLaws.{some_colouring, blocks_all}
 use Rattle.salvage.specs.Keeping.{kept_next, last-due, length-colouring, kept-all}
 use Rattle.salvage.proofs.surviving.keep_survivors.Goals as goal
 

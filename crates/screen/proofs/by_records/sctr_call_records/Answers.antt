@@ -1,5 +1,5 @@
 -- The call on the front of the array of the records is the call on their numbers.
-use Rattle.records.specs.Same.{judged-front}
+use Rattle.records.proofs.Same.{judged-front}
 use Rattle.screen.proofs.by_records.sctr_call_records.Goals as goal
 
 pub returns : goal.returns

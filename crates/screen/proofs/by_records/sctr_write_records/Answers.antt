@@ -1,5 +1,5 @@
 -- Writing with the front of the array of the records is writing with their numbers.
-use Rattle.records.specs.Same.{written-front}
+use Rattle.records.proofs.Same.{written-front}
 use Rattle.screen.proofs.by_records.sctr_write_records.Goals as goal
 
 pub returns : goal.returns

@@ -1,6 +1,6 @@
 -- Too many flights mean no; else their visits decide.
 use native.Mathlib.Omega.{arith}
-use Rattle.form.specs.FormLaws.{few_flights}
+use Rattle.form.proofs.FormLaws.{few_flights}
 use Rattle.sheet.specs.HeadLaws.{flights_many, flights_few}
 use Rattle.sheet.proofs.opening.flights_right.Goals as goal
 

@@ -2,7 +2,7 @@
 use native.Mathlib.Omega.{arith}
 use mathlib.Core.Path.{ap, ◌∙◌}
 use lib.ListN.{length}
-use Rattle.form.specs.FormLaws.{four_letters, small_head}
+use Rattle.form.proofs.FormLaws.{four_letters, small_head}
 use Rattle.sheet.specs.Opening.{some_room, head_limits, head_fault_lem, open_short, open_faulty, open_numbers, open_other, open_none}
 use Rattle.sheet.proofs.opening.open_refusal.Goals as goal
 

@@ -1,8 +1,8 @@
 -- A place that is not past the end has a block that is due; what is wrong with it decides between an empty part and its used payload.
 use mathlib.Core.Path.{ap, ◌∙◌}
 use lib.ListN.{length}
-use Rattle.form.specs.FormLaws.{four_letters}
-use Rattle.form.specs.Accepted.{opened_blocks}
+use Rattle.form.proofs.FormLaws.{four_letters}
+use Rattle.form.proofs.AcceptedLaws.{opened_blocks}
 use Rattle.sheet.specs.ShowLaws.{DueThere, due-there, shown_past, shown_faulty, shown-sound, promised, block_room, opened_head, opened_as}
 use Rattle.sheet.proofs.showing.block.Goals as goal
 use Rattle.sheet.proofs.showing.block.Goals.{Else-past_end}

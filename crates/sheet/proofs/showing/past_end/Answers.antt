@@ -1,6 +1,6 @@
 -- A sheet that is not opened has no block at any place; an opened one has those that are due of its head.
 use mathlib.Core.Path.{refl}
-use Rattle.form.specs.Accepted.{opened_blocks, opened_by}
+use Rattle.form.proofs.AcceptedLaws.{opened_blocks, opened_by}
 use Rattle.sheet.specs.ShowLaws.{past_shut, past_last, opened_head}
 use Rattle.sheet.proofs.showing.past_end.Goals as goal
 

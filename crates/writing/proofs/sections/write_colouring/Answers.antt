@@ -1,7 +1,7 @@
 -- The colouring's section starts at its first block, and there is a sector for each region.
 use native.Mathlib.Omega.{arith}
-use Rattle.form.specs.FormLaws.{laid_ones}
-use Rattle.form.specs.Firsts.{blocks_all}
+use Rattle.form.proofs.FormLaws.{laid_ones}
+use Rattle.form.proofs.FirstLaws.{blocks_all}
 use Rattle.writing.specs.Sections.{blocks_asked, blocks_written}
 use Rattle.writing.proofs.sections.write_colouring.Goals as goal
 

@@ -2,8 +2,8 @@
 use native.Mathlib.Omega.{arith}
 use mathlib.Core.Path.{◌∙◌}
 use Rattle.form.specs.Form.{turned}
-use Rattle.form.specs.FormLaws.{laid_constraints, length-turned}
-use Rattle.form.specs.Firsts.{blocks_all}
+use Rattle.form.proofs.FormLaws.{laid_constraints, length-turned}
+use Rattle.form.proofs.FirstLaws.{blocks_all}
 use Rattle.writing.specs.Sections.{blocks_asked, blocks_written, turned_taken}
 use Rattle.writing.proofs.sections.write_constraints.Goals as goal
 

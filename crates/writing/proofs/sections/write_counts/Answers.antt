@@ -1,7 +1,7 @@
 -- The section of the visit counts starts at their first block, and there is one for each flight.
 use native.Mathlib.Omega.{arith}
-use Rattle.form.specs.FormLaws.{laid_ones, bounded}
-use Rattle.form.specs.Firsts.{blocks_all}
+use Rattle.form.proofs.FormLaws.{laid_ones, bounded}
+use Rattle.form.proofs.FirstLaws.{blocks_all}
 use Rattle.writing.specs.Sections.{blocks_asked, blocks_written}
 use Rattle.writing.proofs.sections.write_counts.Goals as goal
 

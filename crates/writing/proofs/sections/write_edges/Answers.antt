@@ -1,7 +1,7 @@
 -- The edges' section starts at their first block, and there are three numbers for each.
 use native.Mathlib.Omega.{arith}
-use Rattle.form.specs.FormLaws.{laid_edges}
-use Rattle.form.specs.Firsts.{blocks_all}
+use Rattle.form.proofs.FormLaws.{laid_edges}
+use Rattle.form.proofs.FirstLaws.{blocks_all}
 use Rattle.writing.specs.Sections.{blocks_asked, blocks_written}
 use Rattle.writing.proofs.sections.write_edges.Goals as goal
 

@@ -3,8 +3,8 @@ use native.Mathlib.Omega.{arith}
 use mathlib.Core.Path.{refl, sym}
 use lib.Seq.{length-take-le}
 use Rattle.form.specs.Form.{head_numbers}
-use Rattle.form.specs.FormLaws.{laid_head, few_head, head_widths_lem}
-use Rattle.form.specs.Firsts.{blocks_all}
+use Rattle.form.proofs.FormLaws.{laid_head, few_head, head_widths_lem}
+use Rattle.form.proofs.FirstLaws.{blocks_all}
 use Rattle.writing.specs.Sections.{blocks_asked, blocks_written, length_head}
 use Rattle.writing.proofs.sections.write_head.Goals as goal
 

@@ -1,8 +1,8 @@
 -- The section of the outside areas starts at their first block, and there are as many as the form has.
 use native.Mathlib.Omega.{arith}
 use Rattle.form.specs.Form.{outside_count}
-use Rattle.form.specs.FormLaws.{laid_fours}
-use Rattle.form.specs.Firsts.{blocks_all}
+use Rattle.form.proofs.FormLaws.{laid_fours}
+use Rattle.form.proofs.FirstLaws.{blocks_all}
 use Rattle.writing.specs.Sections.{blocks_asked, blocks_written}
 use Rattle.writing.proofs.sections.write_outside.Goals as goal
 

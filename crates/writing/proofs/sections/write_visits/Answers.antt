@@ -1,8 +1,8 @@
 -- The visits' section starts at their first block, and there are two numbers for each. The block after them is the one after all.
 use native.Mathlib.Omega.{arith}
 use mathlib.Core.Path.{sym, ◌∙◌}
-use Rattle.form.specs.FormLaws.{laid_visits, bounded}
-use Rattle.form.specs.Firsts.{blocks_all}
+use Rattle.form.proofs.FormLaws.{laid_visits, bounded}
+use Rattle.form.proofs.FirstLaws.{blocks_all}
 use Rattle.writing.specs.Sections.{blocks_asked, blocks_written}
 use Rattle.writing.proofs.sections.write_visits.Goals as goal
 

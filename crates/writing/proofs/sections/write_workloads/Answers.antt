@@ -1,7 +1,7 @@
 -- The workloads' section starts at their first block, and there is one for each region.
 use native.Mathlib.Omega.{arith}
-use Rattle.form.specs.FormLaws.{laid_fours}
-use Rattle.form.specs.Firsts.{blocks_all}
+use Rattle.form.proofs.FormLaws.{laid_fours}
+use Rattle.form.proofs.FirstLaws.{blocks_all}
 use Rattle.writing.specs.Sections.{blocks_asked, blocks_written}
 use Rattle.writing.proofs.sections.write_workloads.Goals as goal
 

@@ -1,0 +1,11 @@
+pub mod FormLaws
+pub mod FirstLaws
+pub mod ListedLaws
+pub mod AcceptedLaws
+pub mod RecolouredLaws
+pub mod ContentsLaws
+pub mod Fitting
+pub mod Renamed
+pub mod RoundTrip
+pub mod SheetA
+pub mod TurningLaws
