@@ -39,8 +39,11 @@ colouring_in-requires c = (within (goal.at.colouring_in-requires c).Start, c.req
 
 pub write_contents-requires : goal.write_contents-requires
 write_contents-requires c =
-    let k = contents_held c.args.head c.args.held.now in record { has_blocks = c.requires.0; so_many = held_many c.args.to c.args.head c.args.held.now (within (goal.at.write_contents-requires c).Start) c.requires.1
-          (same_lists k c.workloads_in.ensures c.outside_in-outside.ensures c.edges_in.ensures c.counts_in.ensures c.visits_in.ensures c.constraints_in.ensures c.colouring_in.ensures) c.outside_count-stored.ensures }
+    let k = contents_held c.args.head c.args.held.now in record {
+      has_blocks = c.requires.0;
+      so_many = held_many c.args.to c.args.head c.args.held.now (within (goal.at.write_contents-requires c).Start) c.requires.1
+          (same_lists k c.workloads_in.ensures c.outside_in-outside.ensures c.edges_in.ensures c.counts_in.ensures c.visits_in.ensures c.constraints_in.ensures c.colouring_in.ensures) c.outside_count-stored.ensures;
+    }
 
 pub returns : goal.returns
 returns c =

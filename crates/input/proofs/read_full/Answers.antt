@@ -12,7 +12,7 @@ front-more : (a k n : ℕ) (xs ys : List ℕ) → a ≤ length xs → n ≤ leng
 front-more a k n xs ys within fits =
     let after = post_of a k xs in
     take-add a n (put_mid a k xs ys)
-        ∙ ap₂ (λ s t. s ++ t) (take-put_mid_below a k xs ys a (le_refl a) within) (ap (take n) (drop_at (take a xs) (ys ++ after) a (length-take-le a xs within)) ∙ take-append-le n ys after fits)
+    ∙ ap₂ (λ s t. s ++ t) (take-put_mid_below a k xs ys a (le_refl a) within) (ap (take n) (drop_at (take a xs) (ys ++ after) a (length-take-le a xs within)) ∙ take-append-le n ys after fits)
 
 pub loop-done-preserved : goal.loop-done-preserved
 loop-done-preserved g c =

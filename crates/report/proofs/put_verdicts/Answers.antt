@@ -1,5 +1,5 @@
 -- The lines so far stand at the buffer's start, each turn puts down the next where they end, and the longest text has room.
-use Prim.Native.Nat.{◌-◌, ◌/◌}
+use Prim.Native.Nat.{◌/◌}
 use native.Mathlib.Numerals.{add-one}
 use native.Mathlib.Omega.{arith}
 use mathlib.Core.Path.{◌≡◌}
@@ -25,12 +25,16 @@ loop-k-init c = (omega arith, placed-none (omega arith))
 
 pub put_line_at-end-requires : goal.put_line_at-end-requires
 put_line_at-end-requires c =
-    let w = words (goal.at.put_line_at-end-requires c).At-loop-k in record { k_in_bounds = omega arith; constraint_length_in_bounds = omega arith; k_in_bounds_2 = omega (
-          arith,
-          placed-length c.loop-k.invariant.1,
-          lines-length w.0 w.1 c.loop-k.k (omega arith),
-          line-at-length w.0 w.1 c.loop-k.k (omega arith),
-        ) }
+    let w = words (goal.at.put_line_at-end-requires c).At-loop-k in record {
+      k_in_bounds = omega arith;
+      constraint_length_in_bounds = omega arith;
+      k_in_bounds_2 = omega (
+        arith,
+        placed-length c.loop-k.invariant.1,
+        lines-length w.0 w.1 c.loop-k.k (omega arith),
+        line-at-length w.0 w.1 c.loop-k.k (omega arith),
+      );
+    }
 
 pub loop-k-preserved : goal.loop-k-preserved
 unfolding lines

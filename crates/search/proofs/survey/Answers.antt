@@ -104,14 +104,13 @@ pub loop-j-smaller : goal.loop-j-smaller
 loop-j-smaller c = omega (arith, c.loop-j-test.true)
 
 pub loop-j-preserved : goal.loop-j-preserved
-loop-j-preserved c =
-    (
-      weighing_turn c.loop-j.invariant.0 c.loop-j-test.true c.part-here.ensures,
-      (
-        weighing_turn c.loop-j.invariant.1.0 c.loop-j-test.true c.part-there.ensures,
-        ranging_either c.loop-j.invariant.1.1 c.loop-j-test.true (label-low (goal.at.loop-j-preserved c).In-loop-j) c.part.ensures c.part-in-loop-j.ensures c.lesser-low.ensures c.greater-high.ensures,
-      ),
-    )
+loop-j-preserved c = (
+  weighing_turn c.loop-j.invariant.0 c.loop-j-test.true c.part-here.ensures,
+  (
+    weighing_turn c.loop-j.invariant.1.0 c.loop-j-test.true c.part-there.ensures,
+    ranging_either c.loop-j.invariant.1.1 c.loop-j-test.true (label-low (goal.at.loop-j-preserved c).In-loop-j) c.part.ensures c.part-in-loop-j.ensures c.lesser-low.ensures c.greater-high.ensures,
+  ),
+)
 
 pub returns : goal.returns
 unfolding area_to

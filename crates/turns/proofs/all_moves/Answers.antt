@@ -26,17 +26,16 @@ pub overflow_add-k : goal.overflow_add-k
 overflow_add-k c = omega (arith, c.loop-k-test.true, c.well_formed.1.1.1.1.1.1.1.1.1.1.1.1.1.1.1.1.1.1.0)
 
 pub loop-k-preserved : goal.loop-k-preserved
-loop-k-preserved c =
-    (
-      taken_turn c.loop-k.invariant.0 c.requires.setting.limits c.loop-k-test.true c.turn-standing.ensures.opened c.turn-standing.ensures.rows_after,
-      search rules,
-      search rules,
-      search rules,
-      search rules,
-      search rules,
-      remembered_same c.turn-standing.ensures.opened.colouring c.turn-standing.ensures.remembered,
-      search rules,
-    )
+loop-k-preserved c = (
+  taken_turn c.loop-k.invariant.0 c.requires.setting.limits c.loop-k-test.true c.turn-standing.ensures.opened c.turn-standing.ensures.rows_after,
+  search rules,
+  search rules,
+  search rules,
+  search rules,
+  search rules,
+  remembered_same c.turn-standing.ensures.opened.colouring c.turn-standing.ensures.remembered,
+  search rules,
+)
 
 pub returns : goal.returns
 returns c = let r = taken_end c.loop-k.invariant.0 c.loop-k-test.false in record { opened = r.0; rows_after = r.1 }
