@@ -15,8 +15,6 @@ use Rattle.terms.specs.declared.Move.TheVariants.{Recolour, Exchange, Ask, Refus
 use Rattle.meaning.specs.Moves.{made}
 use Rattle.demands.specs.MoveNumbers.{Probes, accepted, asked, is_made, second_right, status_of}
 
--- ---- accepted moves
-
 -- three numbers that are equal are equal one by one
 three : {k a b k' a' b' : ℕ} → k ∷ a ∷ b ∷ [] ≡ k' ∷ a' ∷ b' ∷ [] → (k' ≡ k) × (a' ≡ a) × (b' ≡ b)
 three e = (cc, cc, cc)

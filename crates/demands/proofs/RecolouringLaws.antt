@@ -25,8 +25,6 @@ use Rattle.demands.proofs.RowLaws.{colouring-next, accepted_move}
 use Rattle.demands.specs.Recolourings.{Recolouring, concerned, make_exchange, make_recolour}
 use Rattle.std.proofs.Math.Bool.{true≢false}
 
--- ---- what a recolouring does
-
 -- ---- by the definitions
 
 module _ {P : Plan} {col : List ℕ} {v d : ℕ} (l : Limits P) (k : Coloured P col) (i : In P.R v) (j : In P.S d) where

@@ -21,8 +21,6 @@ use Rattle.demands.specs.Calls.{same_plan, rows_left_by, verdicts_left, rows_lef
 use Rattle.demands.specs.Work.{numbers_in, work-labels, work-counts, work-loads, work-border}
 use Rattle.demands.specs.Renamed.{LeftAlike, Renamed}
 
--- ---- definitions
-
 -- ---- the parts of an outcome
 
 -- an answer goes by the refusal and the two totals

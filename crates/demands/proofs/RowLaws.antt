@@ -26,8 +26,6 @@ use Rattle.demands.specs.Rows.{colouring_at, first_at, kind_at, labels_at, row_l
 use Rattle.std.proofs.Math.IntN.{+ℤ_invr}
 use Rattle.std.proofs.Math.IntN.{+ℤ-neg_ℤ_cancel}
 
--- ---- definitions
-
 -- ---- the row of a move
 
 module _ (P : Plan) (col : List ℕ) where

@@ -18,8 +18,6 @@ use Rattle.std.proofs.Math.IntN.{+ℤ_comm}
 use Rattle.std.proofs.Math.IntN.{+ℤ_idl}
 use Rattle.std.proofs.Math.IntN.{+ℤ-neg_ℤ_cancel}
 
--- ---- definitions
-
 -- ---- the numbers and the moves
 
 -- what the numbers of moves and rows sum to is what the moves sum to

@@ -5,7 +5,8 @@ use Rattle.std.proofs.Common.{arith, sym, ap, ◌∙◌, leb-true, leb-false, le
 use Rattle.std.proofs.Math.Seq.{length_front}
 use Rattle.refusals.specs.Table.{refusal}
 use Rattle.refusals.specs.Passed.{passed_records}
-use Rattle.report.specs.Text.{ascii, no_sheet}
+use Rattle.report.specs.Text.{ascii}
+use Rattle.report.proofs.Examples.{no_sheet}
 use Rattle.blocks.specs.Block.{block_length}
 use Rattle.form.specs.declared.Form.{Form}
 use Rattle.form.specs.declared.Form.TheVariants.{First, Second}

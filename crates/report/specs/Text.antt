@@ -1,11 +1,11 @@
 -- The texts that the programs print: document 01, "The program `verdicts`"; document 02, C-22.
 -- Assumes nothing.
-use Rattle.std.specs.Prelude.{ℕ, zero, suc, ◌+◌, ◌*◌, ◌/◌, ◌≡◌, refl, List, [], ◌∷◌, ◌++◌, length, get_or}
+use Rattle.std.specs.Prelude.{ℕ, zero, suc, ◌+◌, ◌*◌, ◌/◌, List, [], ◌∷◌, ◌++◌, length, get_or}
 use Prim.Native.Char.{code}
 use Prim.Native.String as string
 use Rattle.meaning.specs.Plan.{constraint_length, constraint_at, most_constraints}
 use Rattle.meaning.specs.Moves.{verdict_length}
-use Rattle.report.specs.Decimal.{decimal, spelled, most_digits}
+use Rattle.report.specs.Decimal.{decimal, most_digits}
 
 -- the bytes of a text in ASCII
 abbrev pub ascii : string.String → List ℕ
@@ -72,16 +72,3 @@ most_refused = length (ascii "refused ") + 2 * most_number
 -- a line for each constraint, the word before the total, and the total
 abbrev pub most_text : ℕ
 most_text = most_constraints * most_line + (length (ascii "total ") + most_number)
-
--- ---- document 01's lines
-
--- the five lines for sheet A
-pub sheet_a_lem : verdict_text (1 ∷ 3 ∷ 2 ∷ 100 ∷ 2 ∷ 1 ∷ 5 ∷ 1 ∷ 3 ∷ 1 ∷ 40 ∷ 2 ∷ 4 ∷ 1 ∷ 55 ∷ 3 ∷ []) (1 ∷ 0 ∷ 1 ∷ 0 ∷ 1 ∷ 0 ∷ 0 ∷ 5 ∷ []) 15
-    ≡ ascii "1 1 1 0\n2 2 1 0\n3 3 1 0\n4 4 0 5\ntotal 15\n"
-unfolding spelled decimal number line lines total_line verdict_text
-sheet_a_lem = refl
-
--- a sheet of no block
-pub no_sheet : refused_text 31 0 ≡ ascii "refused 31 0\n"
-unfolding spelled decimal number refused_text
-no_sheet = refl
