@@ -2,7 +2,7 @@
  * Qirfadhun from C, or from any language that calls C: judges airspace sector plans, and reads and writes the sheets that they
  * are stored in. `example.c` and `example.py` beside this file judge a plan with it.
  *
- * The functions are in `target/staticlib/libscreen.a`, which `rt staticlib screen` proves and writes, for x86-64 on Linux:
+ * The functions are in `target/staticlib/libscreen.a`, which `tools/build` proves and writes, for x86-64 on Linux:
  *
  *     cc -Iinclude include/example.c target/staticlib/libscreen.a -o example
  *     cc -shared -Wl,--whole-archive target/staticlib/libscreen.a -Wl,--no-whole-archive -o libscreen.so
@@ -32,7 +32,7 @@
  *       4 KiB    sctr_write, sctr_write_records, sctr_write_second
  *     300 KiB    sctr_code, sctr_place, sctr_total, sctr_constraints, sctr_holds, sctr_violation
  *
- * as measured on the archive. It is not proved. With less, the process ends.
+ * as measured on an archive of an older kit; the Rust tests hold each archive to it. It is not proved. With less, the process ends.
  */
 #ifndef QIRFADHUN_H
 #define QIRFADHUN_H

@@ -2,20 +2,20 @@
 //! build script says. Where the archive is missing, is none, or is older than a file that it is proved from, the build ends and
 //! names the command.
 //!
-//! Older goes by times of modification, as cargo's own rule does. `rt staticlib` writes the archive anew each time that it proves,
-//! and leaves the one before where it doesn't. Without `crates/` beside it, nothing is newer than the archive. All places are
-//! relative to the crate, and the archive is linked from a copy in cargo's own folder, so that a copied tree doesn't link the
-//! archive of the tree it was copied from.
+//! Older goes by times of modification, as cargo's own rule does. `tools/build` writes the archive anew each time that it proves,
+//! and leaves the one before where it doesn't. The folders `out` of the crates are not looked at: `rt` makes them. Without `crates/`
+//! beside it, nothing is newer than the archive. All places are relative to the crate, and the archive is linked from a copy in
+//! cargo's own folder, so that a copied tree doesn't link the archive of the tree it was copied from.
 
 use std::fs;
 use std::path::{Path, PathBuf};
 use std::time::SystemTime;
 
-const COMMAND: &str = "run `rt staticlib screen` in the repository first, and for the tests `rt check verdicts figures`";
+const COMMAND: &str = "run `tools/build` in the repository first";
 
 fn main() {
     let archive = Path::new("../target/staticlib/libscreen.a");
-    let sources = ["../crates.txt", "../crates"].map(PathBuf::from);
+    let sources = sources();
     if let Err(fault) = held_to(&sources, archive) {
         println!("cargo::error={} {fault}: {COMMAND}", archive.display());
         return;
@@ -27,6 +27,17 @@ fn main() {
     for looked_at in sources.iter().map(PathBuf::as_path).chain([archive]) {
         println!("cargo::rerun-if-changed={}", looked_at.display());
     }
+}
+
+/// The list of the crates, and all of each crate but what `rt` makes of it.
+fn sources() -> Vec<PathBuf> {
+    let parts = inside(Path::new("../crates")).into_iter().flat_map(|folder| inside(&folder));
+    [PathBuf::from("../crates.txt")].into_iter().chain(parts.filter(|path| !path.ends_with("out"))).collect()
+}
+
+/// What is in a folder; nothing where there is none.
+fn inside(folder: &Path) -> Vec<PathBuf> {
+    fs::read_dir(folder).into_iter().flatten().flatten().map(|entry| entry.path()).collect()
 }
 
 /// In words, what is wrong with the archive of these sources.
@@ -45,7 +56,7 @@ fn held_to(sources: &[PathBuf], archive: &Path) -> Result<(), String> {
 /// A file here that the archive is proved from, and that was changed after this time.
 fn changed_after(time: SystemTime, path: &Path) -> Option<PathBuf> {
     if path.is_dir() {
-        return fs::read_dir(path).ok()?.flatten().find_map(|entry| changed_after(time, &entry.path()));
+        return inside(path).iter().find_map(|path| changed_after(time, path));
     }
     let proved_from = path.extension().is_some_and(|ending| ["rt", "antt", "txt"].iter().any(|due| ending == *due));
     (proved_from && modified(path)? > time).then(|| path.to_owned())

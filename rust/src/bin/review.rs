@@ -20,9 +20,9 @@ const USAGE: &str = "usage: review [--figures PROGRAM] FILE...
 Each FILE is a sheet, sound or not, of 1 to 74 blocks of 512 bytes. There are at most 1000.
 What the proved program `figures` counts over all of them is shown in words, and each FILE
 that is refused is named with the reason. PROGRAM is where `figures` is; without it, it is
-looked for beside this program, and then where `rt check figures` puts it. The status is 0
-when all was shown. Else it is 2, and nothing is shown: a FILE can't be read or is no such
-sheet, or `figures` is not there, or it doesn't count what the library does.
+looked for beside this program, and then where `tools/build` puts it. The status is 0 when
+all was shown. Else it is 2, and nothing is shown: a FILE can't be read or is no such sheet,
+or `figures` is not there, or it doesn't count what the library does.
 ";
 
 fn main() -> ExitCode {
@@ -97,8 +97,8 @@ fn found(named: Option<&Path>) -> Result<PathBuf, String> {
     let built = own.ancestors().skip(1).chain([compiled.as_path()]).map(|folder| folder.join("target/bin/figures"));
     let there = [own.with_file_name("figures")].into_iter().chain(built).find(|path| path.is_file());
     there.ok_or_else(|| {
-        "the proved program `figures` is neither beside this program nor in target/bin of the repository. `rt check figures` builds \
-         it there; `--figures PROGRAM` names another."
+        "the proved program `figures` is neither beside this program nor in target/bin of the repository. `tools/build` builds it \
+         there; `--figures PROGRAM` names another."
             .to_string()
     })
 }

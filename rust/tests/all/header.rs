@@ -75,7 +75,7 @@ fn function_in_c(function: &str) -> String {
 fn every_export_and_nothing_else() {
     let source = sources("screen");
     let due: BTreeSet<String> = source.split("pub extern \"C\" fn ").skip(1).map(function_in_c).collect();
-    assert_eq!(due.len(), source.matches("#[no_mangle]").count());
+    assert_eq!(due.len(), source.matches("#[unsafe(no_mangle)]").count());
     let declared = declared();
     let found = declared.split(';').map(|part| part.trim().to_string()).filter(|part| part.contains('(')).collect();
     assert_eq!(due.symmetric_difference(&found).collect::<Vec<_>>(), [""; 0]);

@@ -7,10 +7,10 @@ use Rattle.form.specs.declared.Form.TheVariants.{Second}
 use Rattle.form.specs.Form.{most_blocks}
 use Rattle.review.specs.Stream.{count_length}
 use Rattle.review.specs.StreamLaws.{Counted, blocks_counted}
-use Rattle.review.specs.SoFar.{so_far_none, so_far_taken, so_far_next, ends_full, ends_well, ends_count, ends_cut}
+use Rattle.review.specs.SoFar.{so_far_none, so_far_next, ends_full, ends_well, ends_count, ends_cut}
 use Rattle.figures.proofs.read_all.Given.{Over}
 use Rattle.figures.proofs.read_all.Goals as goal
-use Rattle.figures.proofs.read_all.Goals.{After-by, After-read_full-read, In-Blocks}
+use Rattle.figures.proofs.read_all.Goals.{After-by, In-Blocks}
 
 -- the bytes of the count
 abbrev count : (g : Over) → After-by g → List ℕ

@@ -1,7 +1,5 @@
 -- A place within the list has its verdict at the front of the lent list; for another the answer is 0.
-use native.Mathlib.Omega.{arith}
 use Rattle.lists.specs.Sums.{In}
-use Rattle.judging.specs.Fronts.{few_left}
 use Rattle.judgement.specs.Told.{verdict_outside, place_in, verdict-within}
 use Rattle.judgement.proofs.verdict_at.Goals as goal
 use Rattle.judgement.proofs.verdict_at.Goals.{Else-not-in_limits}

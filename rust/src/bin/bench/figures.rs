@@ -65,7 +65,7 @@ fn print(name: &str, time: f64) {
 pub fn print_all() {
     println!();
     let (Some(figures), Some(verdicts)) = (program("figures"), program("verdicts")) else {
-        println!("`figures` and `verdicts` are measured once `rt check figures verdicts` has built them.");
+        println!("`figures` and `verdicts` are measured once `tools/build` has built them.");
         return;
     };
     println!("| the largest second sheet, {} bytes, read and judged | microseconds a sheet | MB/s |", LARGEST_SECOND.len());

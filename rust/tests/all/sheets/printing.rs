@@ -9,7 +9,7 @@ use std::time::Duration;
 /// Where a proved program is.
 pub fn proved(name: &str) -> String {
     let path = format!("{}/../target/bin/{name}", env!("CARGO_MANIFEST_DIR"));
-    assert!(Path::new(&path).exists(), "target/bin/{name} is missing: run `rt check {name}`");
+    assert!(Path::new(&path).exists(), "target/bin/{name} is missing: run `tools/build`");
     path
 }
 

@@ -1,5 +1,5 @@
 -- The failing constraints among those passed, with those among the rest, are all that fail.
-use Prim.Native.Nat.{◌-◌, ◌/◌}
+use Prim.Native.Nat.{◌/◌}
 use native.Mathlib.Omega.{arith}
 use lib.ListN.{length}
 use Rattle.lists.specs.SumLaws.{length_from}

@@ -7,7 +7,6 @@ use Rattle.std.proofs.Common.{rules}
 use Rattle.lists.specs.SumLaws.{get_or_bound}
 use Rattle.lists.specs.ListLaws.{drop-up_to}
 use Rattle.lists.specs.Loops.{mapped_start, mapped_turn, mapped_end}
-use Rattle.review.specs.Review as review
 use Rattle.review.specs.Next.{with_failed}
 use Rattle.review.specs.Bounds.{failing_most}
 use Rattle.review.proofs.by_kind.with_failed.Goals as goal
