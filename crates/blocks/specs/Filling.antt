@@ -1,8 +1,8 @@
 -- A block of numbers put down piece by piece.
 -- Assumes nothing.
 use Prim.Native.Nat.{ℕ, ◌+◌, ◌-◌, ◌*◌, ◌≤◌}
-use Rattle.std.proofs.Common.{arith, sym, ◌∙◌, length-drop}
-use Rattle.std.specs.Prelude.{◌≡◌, drop}
+use Rattle.std.proofs.Common.{arith, sym, ◌∙◌}
+use Rattle.std.specs.Prelude.{◌≡◌}
 use Rattle.std.proofs.Math.Path.{ap, ap₂}
 use mathlib.Core.List.{List, ◌++◌, append_assoc}
 use Rattle.std.proofs.Math.ListN.{length, replicate, length-append}
@@ -14,34 +14,34 @@ use Rattle.blocks.specs.Fletcher.{check}
 use Rattle.blocks.specs.Block.{block_length, letters_length, header_length, most_payload, checked_length, header, body, block_of}
 use Rattle.blocks.specs.BlockLaws.{length-header, length-body, length_block}
 
--- what a block is filled with: four letters, and `count` records of numbers from `from` on, each of these widths and of `stride` bytes
-pub record Filling (letters ws xs : List ℕ) (stride from count : ℕ) : Type 0 where
+-- what a block is filled with: four letters, and the first `count` records of numbers, each of these widths and of `stride` bytes
+pub record Filling (letters ws xs : List ℕ) (stride count : ℕ) : Type 0 where
   pub four : length letters ≡ letters_length
   pub widths : Widths ws
   pub sum : stride ≡ total ws
   pub small : count * stride ≤ most_payload
-  pub there : from + count * length ws ≤ length xs
+  pub there : count * length ws ≤ length xs
 
 -- its payload
-abbrev pub payload_in : List ℕ → List ℕ → ℕ → ℕ → List ℕ
-payload_in ws xs from count = pack (rep count ws) (drop from xs)
+abbrev pub payload_in : List ℕ → List ℕ → ℕ → List ℕ
+payload_in ws xs count = pack (rep count ws) xs
 
-module _ {letters ws xs : List ℕ} {stride from count : ℕ} (f : Filling letters ws xs stride from count) where
+module _ {letters ws xs : List ℕ} {stride count : ℕ} (f : Filling letters ws xs stride count) where
   -- all of the payload's bytes are used
-  pub filling_used : length (payload_in ws xs from count) ≡ count * stride
+  pub filling_used : length (payload_in ws xs count) ≡ count * stride
   filling_used =
-      length-pack (rep count ws) (drop from xs) (omega (arith, f.there, length-rep count ws, length-drop from xs))
+      length-pack (rep count ws) xs (omega (arith, f.there, length-rep count ws))
       ∙ total-rep count ws
       ∙ ap (λ (n : ℕ). count * n) (sym f.sum)
 
   module _ (kind number : ℕ) (sheet : List ℕ) (at : ℕ) (room : at + block_length ≤ length sheet) where
     payload : List ℕ
-    payload = payload_in ws xs from count
+    payload = payload_in ws xs count
 
     -- the header, the payload and the zeros after it are all but the check
-    pub body-put : {h sheet₁ sheet₂ sheet₃ : List ℕ} → h ≡ header letters kind number (count * stride) → sheet₁ ≡ put sheet at h → sheet₂ ≡ put sheet₁ (at + header_length) (payload_in ws xs from count)
+    pub body-put : {h sheet₁ sheet₂ sheet₃ : List ℕ} → h ≡ header letters kind number (count * stride) → sheet₁ ≡ put sheet at h → sheet₂ ≡ put sheet₁ (at + header_length) (payload_in ws xs count)
         → sheet₃ ≡ put sheet₂ (at + header_length + count * stride) (replicate (at + checked_length - (at + header_length + count * stride)) 0)
-        → sheet₃ ≡ put sheet at (body letters kind number (payload_in ws xs from count))
+        → sheet₃ ≡ put sheet at (body letters kind number (payload_in ws xs count))
     unfolding payload body
     body-put {h} {sheet₁} {sheet₂} eh e₁ e₂ e₃ =
         let top = header letters kind number (length payload) in
@@ -61,9 +61,9 @@ module _ {letters ws xs : List ℕ} {stride from count : ℕ} (f : Filling lette
         ∙ rw append_assoc
 
     -- and with the check they are the block
-    pub block_put : {sheet₁ sheet₂ : List ℕ} → sheet₁ ≡ put sheet at (body letters kind number (payload_in ws xs from count))
+    pub block_put : {sheet₁ sheet₂ : List ℕ} → sheet₁ ≡ put sheet at (body letters kind number (payload_in ws xs count))
         → sheet₂ ≡ put sheet₁ (at + checked_length) (check (part at (at + checked_length) sheet₁))
-        → sheet₂ ≡ put sheet at (block_of letters kind number (payload_in ws xs from count))
+        → sheet₂ ≡ put sheet at (block_of letters kind number (payload_in ws xs count))
     unfolding payload block_of
     block_put {sheet₁} e₁ e₂ =
         let b = body letters kind number payload in

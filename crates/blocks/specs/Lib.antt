@@ -4,6 +4,7 @@ pub mod Block
 pub mod Summing
 pub mod BlockLaws
 pub mod Section
+pub mod Faults
 pub mod SectionLaws
 pub mod Sheet
 pub mod SheetLaws

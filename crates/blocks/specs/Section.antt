@@ -1,6 +1,6 @@
 -- Document 01, "The sheet": which blocks are due. Each block is full but the last of its kind; no bytes, no block.
 -- Assumes nothing.
-use Rattle.std.specs.Prelude.{ℕ, zero, suc, ◌+◌, ◌-◌, ◌/◌, ◌≤◌, min, ◌≡◌, List, [], ◌∷◌, ◌++◌, length}
+use Rattle.std.specs.Prelude.{ℕ, zero, suc, ◌+◌, ◌-◌, ◌/◌, ◌≤◌, min, List, [], ◌∷◌, ◌++◌, length}
 use Rattle.lists.specs.Sums.{sum, Every}
 use Rattle.blocks.specs.declared.Section.{Section}
 use Rattle.blocks.specs.declared.Due.{Due}
@@ -40,13 +40,6 @@ abbrev pub due_of : List Section → List Due
 due_of [] = []
 due_of (s ∷ ss) = section_dues s ++ due_of ss
 
--- the sections that three lists say: kinds, sizes and bytes
-abbrev pub sections_of : List ℕ → List ℕ → List ℕ → List Section
-sections_of [] sizes bytes = []
-sections_of (k ∷ ks) [] bytes = []
-sections_of (k ∷ ks) (z ∷ zs) [] = []
-sections_of (k ∷ ks) (z ∷ zs) (b ∷ bs) = section k z b ∷ sections_of ks zs bs
-
 -- no block is used for more than a payload
 abbrev pub Small : List Due → Type 0
 Small ds = Every (λ d. d.used ≤ most_payload) ds
@@ -64,9 +57,7 @@ pub record Sized (s : Section) : Type 0 where
 abbrev pub most_blocks : ℕ
 most_blocks = 65536
 
--- three lists that say sections: they are as long as one another, each section is sized, and the blocks can be numbered
-pub record Sections (kinds sizes bytes : List ℕ) : Type 0 where
-  pub size_each : length sizes ≡ length kinds
-  pub bytes_each : length bytes ≡ length kinds
-  pub sized : Every Sized (sections_of kinds sizes bytes)
-  pub few : length (due_of (sections_of kinds sizes bytes)) ≤ most_blocks
+-- each section is sized, and the blocks can be numbered
+pub record Sections (ss : List Section) : Type 0 where
+  pub sized : Every Sized ss
+  pub few : length (due_of ss) ≤ most_blocks

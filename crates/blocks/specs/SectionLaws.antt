@@ -22,6 +22,11 @@ count_none size h = div-eq_of_lt (omega arith)
 pub count_some : (size bytes : ℕ) → 1 ≤ size → 1 ≤ bytes → block_count size bytes ≡ (bytes - 1) / size + 1
 count_some size bytes h k = let e : bytes + size - 1 ≡ bytes - 1 + size = omega arith in ap (λ (n : ℕ). n / size) e ∙ add-div_right (bytes - 1) h
 
+-- no block, no bytes
+pub count-zero : (size bytes : ℕ) → 1 ≤ size → block_count size bytes ≡ 0 → bytes ≡ 0
+count-zero size zero h k = refl
+count-zero size (suc bytes) h k = absurd (omega (arith, count_some size (suc bytes) h (omega arith)))
+
 -- enough for all bytes
 pub count-enough : (size bytes : ℕ) → 1 ≤ size → bytes ≤ block_count size bytes * size
 count-enough size bytes h = omega (arith, lt-div-mul-add {a = bytes + size - 1} {b = size} h)

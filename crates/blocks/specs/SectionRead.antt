@@ -2,6 +2,7 @@
 -- Assumes nothing.
 use Rattle.std.specs.Prelude.{ℕ, ◌+◌, ◌-◌, ◌*◌, ◌/◌, ◌≤◌, ◌<◌, min, ◌≡◌, refl, List, ◌++◌, take}
 use Rattle.std.proofs.Math.Nat.{zero-div}
+use Rattle.std.proofs.Math.Decide.{dec_lt}
 use native.Mathlib.Omega.{arith}
 use Rattle.std.proofs.Math.Path.{ap}
 use Rattle.std.proofs.Common.{◌∙◌}
@@ -14,7 +15,7 @@ use Rattle.packing.specs.Cuts.{unpack_split, length-rep}
 use Rattle.blocks.specs.declared.Section.{Section}
 use Rattle.blocks.specs.Block.{block_length, header_length, payload_of}
 use Rattle.blocks.specs.Section.{section, section_dues, block_count, blocks_of}
-use Rattle.blocks.specs.SectionLaws.{count_none}
+use Rattle.blocks.specs.SectionLaws.{count_none, count-zero}
 use Rattle.blocks.specs.Sheet.{block_at, stream_from}
 use Rattle.blocks.specs.SheetLaws.{stream_kind}
 use Rattle.blocks.specs.Whole.{Whole, whole-other, whole_used, whole_rest, whole-count, whole_small, whole-dues, whole_blocks}
@@ -44,9 +45,17 @@ section-read_start {s} {ws} {stride} w {sheet} {first = first} b o =
     }
 
 module _ {sheet ws out₀ out : List ℕ} {first size bytes stride at left number to : ℕ} (r : SectionRead sheet first size bytes ws stride out₀ at left number to out) where
-  -- none is left: the next block is the one after the section
-  pub section-read-after : left ≡ 0 → number ≡ first + block_count size bytes
-  section-read-after e = omega (arith, r.blocks, ap (block_count size) e, count_none size r.whole.sized.low)
+  -- as long as there is a next block some are
+  pub section-read-some : number < first + block_count size bytes → 0 < left
+  section-read-some h = go (dec_lt 0 left)
+    where
+      go : Dec (0 < left) → 0 < left
+      go (yes l) = l
+      go (no l) = let e : left ≡ 0 = omega arith in absurd (omega (arith, r.blocks, ap (block_count size) e, count_none size r.whole.sized.low))
+
+  -- past the last block none is
+  pub section-read-none : first + block_count size bytes ≤ number → left ≡ 0
+  section-read-none h = count-zero size left r.whole.sized.low (omega (arith, r.blocks))
 
   -- and all numbers are put down, whatever the kind
   pub section-read_end : left ≡ 0 → (kind : ℕ) → out ≡ put out₀ at (unpack (rep (bytes / stride) ws) (stream_from (section_dues (section kind size bytes)) (drop (block_length * first) sheet)))

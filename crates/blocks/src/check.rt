@@ -6,10 +6,19 @@ ghost use Rattle.blocks.specs.Block.{checked_length};
 // Both sums are taken modulo 255.
 const MODULUS: u32 = 255;
 
-#[derive(Drop)]
+#[derive(Clone, Copy)]
 pub struct Sums {
     pub first: u8,
     pub second: u8,
+}
+
+impl Sums {
+    // The two bytes that end a block.
+    pub fn bytes(self) -> [u8; 2]
+        ensures { result ≡ self.first ∷ self.second ∷ [] }
+    {
+        [self.first, self.second]
+    }
 }
 
 // The two sums over the bytes. They are no more than a block's check is over, so that both sums fit before they are reduced.
@@ -19,11 +28,9 @@ pub fn sums_of(bytes: &[u8]) -> Sums
 {
     let mut first: u32 = 0;
     let mut second: u32 = 0;
-    let mut i = 0;
-    while i < bytes.len() {
-        first += bytes[i] as u32;
+    for byte in bytes {
+        first += u32::from(*byte);
         second += first;
-        i += 1;
     }
     Sums {
         first: (first % MODULUS) as u8,

@@ -1,7 +1,7 @@
 // The block rules of a sheet, over any letters and any list of sections.
 #![tactic(auto)]
 
-ghost use Rattle.std.specs.Prelude.{◌≡◌, length, min};
+ghost use Rattle.std.specs.Prelude.{◌≡◌, length};
 ghost use Rattle.blocks.specs.Block.{letters_length, header};
 
 use packing::{copy_to, write_number};
@@ -14,6 +14,7 @@ pub mod writing; // writing.rt: blocks of numbers
 
 pub const BLOCK_LENGTH: usize = 512;
 
+// Each block starts with so many letters. They are lent as a slice, so that any caller's bytes serve.
 pub const LETTERS_LENGTH: usize = 4;
 
 pub const KIND_AT: usize = LETTERS_LENGTH;
@@ -31,7 +32,7 @@ pub const MOST_PAYLOAD: usize = 500;
 // The bytes that the check is over.
 pub const CHECKED_LENGTH: usize = HEADER_LENGTH + MOST_PAYLOAD;
 
-// The blocks of one kind: how many bytes a full one holds, and how many there are in all.
+// The blocks of one kind, which is any number: the rules are over any list of kinds. It says how many bytes a full one holds, and how many there are in all.
 #[derive(Clone, Copy)]
 pub struct Section {
     pub kind: u8,
@@ -46,21 +47,15 @@ pub struct Due {
     pub used: usize,
 }
 
-fn least(a: usize, b: usize) -> usize
-    ensures { result ≡ min a b }
-{
-    if a < b { a } else { b }
-}
-
 // The bytes that a block starts with.
-fn header_of(letters: &[u8], kind: u8, number: usize, used: usize) -> [u8; HEADER_LENGTH]
+fn header_of(letters: &[u8], number: usize, due: Due) -> [u8; HEADER_LENGTH]
     requires { length letters.now ≡ letters_length }
-    ensures { result ≡ header letters.now kind number used }
+    ensures { result ≡ header letters.now due.kind number due.used }
 {
     let mut header = [0u8; HEADER_LENGTH];
     copy_to(&mut header, 0, &letters[..LETTERS_LENGTH]);
-    header[KIND_AT] = kind;
+    header[KIND_AT] = due.kind;
     write_number(&mut header, NUMBER_AT, 2, number as u64);
-    write_number(&mut header, USED_AT, 2, used as u64);
+    write_number(&mut header, USED_AT, 2, due.used as u64);
     header
 }

@@ -8,8 +8,9 @@ ghost use Rattle.blocks.specs.Sheet.{stream_from};
 ghost use Rattle.blocks.specs.Shown.{payload_part, PartOf};
 ghost use Rattle.blocks.specs.Whole.{Whole};
 
-use crate::{BLOCK_LENGTH, HEADER_LENGTH, Section, least};
-use packing::read_records;
+use crate::dues::block_count;
+use crate::{BLOCK_LENGTH, HEADER_LENGTH, Section};
+use packing::{Shape, read_records};
 
 // The used payload of a block, as that part of the sheet.
 pub fn payload(sheet: &[u8], number: usize, used: usize) -> &[u8]
@@ -17,38 +18,35 @@ pub fn payload(sheet: &[u8], number: usize, used: usize) -> &[u8]
     ensures { PartOf sheet.entry (payload_part number used) result }
 {
     let at = BLOCK_LENGTH * number + HEADER_LENGTH;
-    let end = at + used;
-    &sheet[at..end]
+    &sheet[at..at + used]
 }
 
-// Puts the numbers of the section that starts at block `first`, in records of `stride` bytes, down in `out` from `at` on, and answers the block after it.
+// Puts the numbers of the section that starts at block `first`, in records of this shape, down in `out` from `at` on, and answers the block after it.
 pub fn read_section(
     sheet: &[u8],
     first: usize,
     section: Section,
-    widths: &[u8],
-    stride: usize,
+    shape: Shape,
     out: &mut [u64],
     at: usize,
 ) -> usize
-    requires whole { Whole section widths.now stride }
+    requires whole { Whole section shape.widths.now shape.stride }
     requires section_in_bounds { block_length * (first + blocks_of section) ≤ length sheet.now }
-    requires widths_in_bounds { at + section.bytes / stride * length widths.now ≤ length out.old }
+    requires widths_in_bounds { at + section.bytes / shape.stride * length shape.widths.now ≤ length out.old }
     ensures value { result ≡ first + blocks_of section }
-    ensures out_after { out.new ≡ put out.old at (unpack (rep (section.bytes / stride) widths.now) (stream_from (section_dues section) (drop (block_length * first) sheet.now))) }
+    ensures out_after { out.new ≡ put out.old at (unpack (rep (section.bytes / shape.entry.stride) shape.entry.widths.now) (stream_from (section_dues section) (drop (block_length * first) sheet.now))) }
 {
-    let size = section.size;
+    let end = first + block_count(section);
+    // The bytes that are left are counted down, since the last block may be part full.
     let mut left = section.bytes;
-    let mut number = first;
     let mut to = at;
-    while left > 0 {
-        let used = least(size, left);
+    for number in first..end {
+        let used = section.size.min(left);
         let bytes = payload(sheet, number, used);
-        let count = used / stride;
-        read_records(bytes, widths, stride, count, out, to);
+        let count = used / shape.stride;
+        read_records(bytes, shape, count, out, to);
         left -= used;
-        number += 1;
-        to += count * widths.len();
+        to += count * shape.widths.len();
     }
-    number
+    end
 }

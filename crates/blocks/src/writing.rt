@@ -11,32 +11,35 @@ ghost use Rattle.blocks.specs.Whole.{Whole};
 ghost use Rattle.blocks.specs.Filling.{Filling, payload_in};
 
 use crate::check::sums_of;
-use crate::{BLOCK_LENGTH, CHECKED_LENGTH, HEADER_LENGTH, Section, header_of, least};
-use packing::{copy_to, write_records, zero_to};
+use crate::dues::block_count;
+use crate::{BLOCK_LENGTH, CHECKED_LENGTH, Due, HEADER_LENGTH, Section, header_of};
+use packing::{Shape, copy_to, write_records, zero_to};
 
-// Puts all of a block but its check down from byte `at` on: its payload is `count` records of numbers from `from` on.
-fn write_body(
-    sheet: &mut [u8],
-    at: usize,
-    letters: &[u8],
+// A block that is to be put down: its payload is the first `count` records of the numbers.
+#[derive(Clone, Copy)]
+struct Block<'a> {
+    letters: &'a [u8],
     kind: u8,
     number: usize,
-    widths: &[u8],
-    stride: usize,
-    numbers: &[u64],
-    from: usize,
+    shape: Shape<'a>,
     count: usize,
-)
-    requires filling { Filling letters.now widths.now numbers.now stride from count }
+    numbers: &'a [u64],
+}
+
+// Puts all of a block but its check down from byte `at` on.
+fn write_body(sheet: &mut [u8], at: usize, block: Block)
+    requires filling { Filling block.letters.now block.shape.widths.now block.numbers.now block.shape.stride block.count }
     requires block_length_in_bounds { at + block_length ≤ length sheet.old }
-    ensures { sheet.new ≡ put sheet.old at (body letters.now kind number (payload_in widths.now numbers.now from count)) }
+    ensures { sheet.new ≡ put sheet.old at (body block.entry.letters.now block.entry.kind block.entry.number (payload_in block.entry.shape.widths.now block.entry.numbers.now block.entry.count)) }
 {
-    let used = count * stride;
-    let header = header_of(letters, kind, number, used);
-    copy_to(sheet, at, &header);
+    let due = Due {
+        kind: block.kind,
+        used: block.count * block.shape.stride,
+    };
+    copy_to(sheet, at, &header_of(block.letters, block.number, due));
     let payload = at + HEADER_LENGTH;
-    write_records(sheet, payload, widths, stride, numbers, from, count);
-    zero_to(sheet, payload + used, at + CHECKED_LENGTH);
+    write_records(sheet, payload, block.shape, block.count, block.numbers);
+    zero_to(sheet, payload + due.used, at + CHECKED_LENGTH);
 }
 
 // Puts the check of the block that starts at byte `at` down at its end.
@@ -46,63 +49,52 @@ fn write_check(sheet: &mut [u8], at: usize)
 {
     let end = at + CHECKED_LENGTH;
     let sums = sums_of(&sheet[at..end]);
-    let check = [sums.first, sums.second];
-    copy_to(sheet, end, &check);
+    copy_to(sheet, end, &sums.bytes());
 }
 
-// Puts block `number` down: its payload is `count` records of numbers from `from` on.
-fn write_block(
-    sheet: &mut [u8],
-    letters: &[u8],
-    kind: u8,
-    number: usize,
-    widths: &[u8],
-    stride: usize,
-    numbers: &[u64],
-    from: usize,
-    count: usize,
-)
-    requires filling { Filling letters.now widths.now numbers.now stride from count }
-    requires block_length_in_bounds { block_length * number + block_length ≤ length sheet.old }
-    ensures { sheet.new ≡ put sheet.old (block_length * number) (block_of letters.now kind number (payload_in widths.now numbers.now from count)) }
+// Puts a block down in its place.
+fn write_block(sheet: &mut [u8], block: Block)
+    requires filling { Filling block.letters.now block.shape.widths.now block.numbers.now block.shape.stride block.count }
+    requires block_length_in_bounds { block_length * block.number + block_length ≤ length sheet.old }
+    ensures { sheet.new ≡ put sheet.old (block_length * block.entry.number) (block_of block.entry.letters.now block.entry.kind block.entry.number (payload_in block.entry.shape.widths.now block.entry.numbers.now block.entry.count)) }
 {
-    let at = BLOCK_LENGTH * number;
-    write_body(
-        sheet, at, letters, kind, number, widths, stride, numbers, from, count,
-    );
+    let at = BLOCK_LENGTH * block.number;
+    write_body(sheet, at, block);
     write_check(sheet, at);
 }
 
-// Puts the blocks of a section down from block `first` on, and answers the block after them: its bytes are the numbers, in records of `stride` bytes.
+// Puts the blocks of a section down from block `first` on, and answers the block after them: its bytes are the numbers, in records of this shape.
 pub fn write_section(
     sheet: &mut [u8],
     letters: &[u8],
     first: usize,
     section: Section,
-    widths: &[u8],
-    stride: usize,
+    shape: Shape,
     numbers: &[u64],
 ) -> usize
-    requires letters_len { (length letters.now ≡ letters_length) × Whole section widths.now stride }
+    requires letters_len { (length letters.now ≡ letters_length) × Whole section shape.widths.now shape.stride }
     requires section_in_bounds { block_length * (first + blocks_of section) ≤ length sheet.old }
-    requires widths_in_bounds { section.bytes / stride * length widths.now ≤ length numbers.now }
+    requires widths_in_bounds { section.bytes / shape.stride * length shape.widths.now ≤ length numbers.now }
     ensures value { result ≡ first + blocks_of section }
-    ensures sheet_after { sheet.new ≡ put sheet.old (block_length * first) (sheet_from letters.now first (section_dues section) (pack (rep (section.bytes / stride) widths.now) numbers.now)) }
+    ensures sheet_after { sheet.new ≡ put sheet.old (block_length * first) (sheet_from letters.now first (section_dues section) (pack (rep (section.bytes / shape.entry.stride) shape.entry.widths.now) numbers.now)) }
 {
-    let kind = section.kind;
-    let size = section.size;
+    let end = first + block_count(section);
+    // The bytes that are left are counted down, since the last block may be part full.
     let mut left = section.bytes;
-    let mut number = first;
     let mut from = 0;
-    while left > 0 {
-        let used = least(size, left);
-        let count = used / stride;
-        write_block(
-            sheet, letters, kind, number, widths, stride, numbers, from, count,
-        );
+    for number in first..end {
+        let used = section.size.min(left);
+        let block = Block {
+            letters,
+            kind: section.kind,
+            number,
+            shape,
+            count: used / shape.stride,
+            numbers: &numbers[from..],
+        };
+        write_block(sheet, block);
         left -= used;
-        number += 1;
-        from += count * widths.len();
+        from += block.count * shape.widths.len();
     }
-    number
+    end
 }

@@ -1,11 +1,11 @@
 -- The arrays that a call keeps of its own: their fronts are as long as the plan asks, and hold its neighbours, its constraints by kind and the flights that visit each region.
 -- Assumes nothing.
-use Rattle.std.specs.Prelude.{ℕ, ◌+◌, ◌-◌, ◌*◌, ◌/◌, ◌≤◌, ◌≡◌, refl, List, ◌++◌, length, take, drop}
+use Rattle.std.specs.Prelude.{ℕ, ◌+◌, ◌-◌, ◌*◌, ◌/◌, ◌≤◌, ◌≡◌, refl, List, ℤ, ◌++◌, length, take, drop}
 use Rattle.std.proofs.Common.{arith, ◌∙◌, length-take-le}
 use Rattle.lists.specs.Sums.{sum}
 use Rattle.lists.specs.SumLaws.{few_bound, every_turn}
 use Rattle.lists.specs.ListLaws.{length-list_of}
-use Rattle.lists.specs.Fronts.{zeros, zeros_room, back_room, take_back, back_length}
+use Rattle.lists.specs.Fronts.{zeros, zeros_room}
 use Rattle.meaning.specs.Plan.{Plan, plan_of, edge_length, visit_length, constraint_length, edge_at, edges_of, constraints_of, most_regions, most_sectors, most_edges, most_flights, most_visits, most_constraints}
 use Rattle.meaning.specs.Flights.{length-flights_of}
 use Rattle.meaning.specs.Paths.{Ends, limits_ends}
@@ -17,9 +17,16 @@ use Rattle.refusals.specs.Table.{Given}
 use Rattle.refusals.specs.Valid.{Valid}
 use Rattle.judge.specs.FigureLaws.{whole_by}
 use Rattle.neighbours.specs.Table.{Table}
+use Rattle.engine.specs.declared.Prepared.{Prepared}
 use Rattle.engine.specs.State.{Setting, Opening}
 use Rattle.engine.specs.Sorted.{Sorted, sorted_paying}
 use Rattle.engine.specs.Flown.{Priced, Flown}
+use Rattle.call.specs.Promise.{Input, input}
+
+-- all that a call is given, of which the plan is prepared
+abbrev pub input_prepared : Prepared → List ℕ → List ℕ → List ℤ → List ℕ → List ℕ → Input
+input_prepared p =
+    input (length p.lists.workloads.now) p.lists.sectors p.lists.workloads.now p.lists.outside.now p.faces.edges.now p.lists.counts.now p.lists.visits.now p.lists.constraints.now
 
 -- ---- what a valid call lends
 
@@ -39,13 +46,9 @@ most_rows = most_regions + most_flights + 1
 abbrev starts_of : Given → List ℕ
 starts_of g = take (g.R + 1) (zeros (most_regions + 1))
 
--- that array, once its front came back
-abbrev starts_back : Given → List ℕ → List ℕ
-starts_back g start = start ++ drop (g.R + 1) (zeros (most_regions + 1))
-
 module _ {g : Given} (v : Valid g) where
   -- there is room for the starts
-  few_regions : g.R + 1 ≤ length (zeros (most_regions + 1))
+  pub few_regions : g.R + 1 ≤ length (zeros (most_regions + 1))
   few_regions = zeros_room (most_regions + 1) (omega (arith, v.plan.limits.R.high))
 
   -- the front has R + 1 numbers
@@ -65,29 +68,16 @@ module _ {g : Given} (v : Valid g) where
   unfolding edges_of
   edges_fit = omega (arith, v.plan.limits.edges, length-list_of (length g.edges / edge_length) (edge_at g.edges))
 
-  module _ (start : List ℕ) (k : length start ≡ length (starts_of g)) where
-    -- the array has room for its front still
-    pub starts_room : g.R + 1 ≤ length (starts_back g start)
-    starts_room = back_room (g.R + 1) (zeros (most_regions + 1)) few_regions start k
-
-    -- its front is as it came back
-    starts_back_lem : take (g.R + 1) (starts_back g start) ≡ start
-    starts_back_lem = take_back (g.R + 1) (zeros (most_regions + 1)) few_regions start k
-
-    -- and is as long as it was
-    pub starts_length : length (take (g.R + 1) (starts_back g start)) ≡ g.R + 1
-    starts_length = back_length (g.R + 1) (zeros (most_regions + 1)) few_regions start k
-
-    -- with the neighbours gathered and the workloads summed, all is known that no move changes
-    pub gathered_setting : {W : ℕ} {near areas : List ℕ} → W ≡ sum g.workloads (λ w. w) → Table (length (starts_of g) - 1) (edges_of g.edges) start near areas
-        → Setting (plan_given g) W (take (g.R + 1) (starts_back g start)) near areas (zeros (most_regions + 1))
-    gathered_setting w t =
-        record {
-          limits = v.plan.limits;
-          table = rw starts_back_lem (rw less_one at t);
-          whole = w ∙ whole_by (plan_given g) v.plan.limits.workloads;
-          queue = omega (arith, few_regions);
-        }
+  -- with the neighbours gathered and the workloads summed, all is known that no move changes
+  pub gathered_setting : {W : ℕ} {start near areas : List ℕ} → W ≡ sum g.workloads (λ w. w) → Table (length (starts_of g) - 1) (edges_of g.edges) start near areas
+      → Setting (plan_given g) W start near areas (zeros (most_regions + 1))
+  gathered_setting w t =
+      record {
+        limits = v.plan.limits;
+        table = rw less_one at t;
+        whole = w ∙ whole_by (plan_given g) v.plan.limits.workloads;
+        queue = omega (arith, few_regions);
+      }
 
   -- there is room for what each sector pays
   pub prices_room : g.S ≤ length (zeros most_sectors)
@@ -128,7 +118,7 @@ module _ {g : Given} (v : Valid g) where
   picked_priced e = record { flying = valid_flying; timing = sorted_paying v.plan.limits 5 5 e; flights = refl; picked = e }
 
   -- there is room for the starts
-  few_rows : row_count g ≤ length (zeros most_rows)
+  pub few_rows : row_count g ≤ length (zeros most_rows)
   few_rows = zeros_room most_rows (omega (arith, v.plan.limits.R.high, valid_flying.few))
 
   -- the front has so many
@@ -139,19 +129,10 @@ module _ {g : Given} (v : Valid g) where
   pub visits_fit : length g.visits ≤ visit_length * (most_flights * most_visits)
   visits_fit = omega (arith, v.plan.visits-whole, few_bound most_flights most_visits g.counts (λ n. n) valid_flying.few (every_turn (λ n i. i.high) g.counts v.plan.count))
 
-  module _ (starts : List ℕ) (k : length starts ≡ length (take (row_count g) (zeros most_rows))) where
-    -- the array has room for its front still
-    pub rows_room : row_count g ≤ length (starts ++ drop (row_count g) (zeros most_rows))
-    rows_room = back_room (row_count g) (zeros most_rows) few_rows starts k
-
-    -- which is as long as it was
-    pub rows-length : length (take (row_count g) (starts ++ drop (row_count g) (zeros most_rows))) ≡ row_count g
-    rows-length = back_length (row_count g) (zeros most_rows) few_rows starts k
-
-    -- with the visitors gathered all is known of the flights that no move changes
-    pub gathered_flown : {picked flights firsts : List ℕ} → Priced (plan_given g) picked g.counts g.visits → Visitors g.R g.counts g.visits starts flights firsts
-        → Flown (plan_given g) picked g.counts g.visits (take (row_count g) (starts ++ drop (row_count g) (zeros most_rows))) flights firsts
-    gathered_flown p t = record { priced = p; table = λ _. rw (take_back (row_count g) (zeros most_rows) few_rows starts k) t }
+  -- with the visitors gathered all is known of the flights that no move changes
+  pub gathered_flown : {picked starts numbers firsts : List ℕ} → Priced (plan_given g) picked g.counts g.visits → Visitors g.R g.counts g.visits starts numbers firsts
+      → Flown (plan_given g) picked g.counts g.visits starts numbers firsts
+  gathered_flown p t = record { priced = p; table = λ _. t }
 
   -- with no constraint of kind 5 none need be gathered
   pub empty_flown : {picked visited flights firsts : List ℕ} → length picked ≡ 0 → Priced (plan_given g) picked g.counts g.visits → Flown (plan_given g) picked g.counts g.visits visited flights firsts

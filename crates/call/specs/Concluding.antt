@@ -6,7 +6,7 @@ use Rattle.lists.specs.Sums.{from}
 use Rattle.lists.specs.SumLaws.{every_from}
 use Rattle.lists.specs.ListLaws.{map_ext}
 use Rattle.lists.specs.Few.{Few}
-use Rattle.lists.specs.Fronts.{zeros, zeros_room, back_room, take_back, back_length}
+use Rattle.lists.specs.Fronts.{zeros, zeros_room}
 use Rattle.meaning.specs.Plan.{Plan, Limits, flights_of, constraints_of, most_sectors, most_constraints}
 use Rattle.meaning.specs.Kinds.{dwelling}
 use Rattle.meaning.specs.Bounds.{most_load}
@@ -54,42 +54,14 @@ module _ {constraints counts visits loads col : List ℕ} {F : Figures} (c : Con
   pub gauges_lent : length (take n (zeros most_constraints)) ≡ n
   gauges_lent = length-take-le n (zeros most_constraints) gauges_room
 
-  module _ (gs : List ℕ) (k : length gs ≡ length (take n (zeros most_constraints))) where
-    -- the array once those of kind 4 are put down
-    abbrev bounded : List ℕ
-    bounded = gs ++ drop n (zeros most_constraints)
+  module _ {gs hs : List ℕ} (p : gs ≡ gauges_by loads constraints) (q : hs ≡ dwell_gauges (flights_of counts visits) col constraints gs) where
+    -- with those of kind 4 and then those of kind 5 put down there, the verdicts can be made
+    pub concluding_small : length hs ≡ n → Small F hs constraints
+    concluding_small m = record { figures = c.figures; size = m; constraint = c.paying.constraint }
 
-    -- it has room for the gauges still
-    pub bounded_room : n ≤ length bounded
-    bounded_room = back_room n (zeros most_constraints) gauges_room gs k
-
-    -- in its front
-    pub bounded_lent : length (take n bounded) ≡ n
-    bounded_lent = back_length n (zeros most_constraints) gauges_room gs k
-
-    module _ (hs : List ℕ) (m : length hs ≡ length (take n bounded)) where
-      -- and once those of kind 5 are
-      abbrev all : List ℕ
-      all = hs ++ drop n bounded
-
-      -- it has room for the gauges still
-      pub all_room : n ≤ length all
-      all_room = back_room n bounded bounded_room hs m
-
-      -- in its front
-      pub all_lent : length (take n all) ≡ n
-      all_lent = back_length n bounded bounded_room hs m
-
-      -- the verdicts can be made of them
-      pub concluding_small : Small F (take n all) constraints
-      concluding_small = record { figures = c.figures; size = all_lent; constraint = c.paying.constraint }
-
-      -- and are those by all gauges
-      pub concluding_verdicts : gs ≡ gauges_by loads constraints → hs ≡ dwell_gauges (flights_of counts visits) col constraints (take n bounded)
-          → verdicts_by F (take n all) constraints n ≡ concluded constraints counts visits loads col F
-      concluding_verdicts p q =
-          ap (λ (gauges : List ℕ). verdicts_by F gauges constraints n)
-          (take_back n bounded bounded_room hs m ∙ q ∙ ap (dwell_gauges (flights_of counts visits) col constraints) (take_back n (zeros most_constraints) gauges_room gs k ∙ p))
+    -- and are those by all gauges
+    pub concluding_verdicts : verdicts_by F hs constraints n ≡ concluded constraints counts visits loads col F
+    concluding_verdicts = rw (q, p)
 
 -- ---- the verdicts of a plan
 

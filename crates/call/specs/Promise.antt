@@ -4,6 +4,7 @@ use Rattle.std.specs.Prelude.{ℕ, ◌+◌, ◌*◌, ◌/◌, ◌≡◌, cond, L
 use Rattle.std.proofs.Common.{sym, ◌∙◌}
 use Rattle.terms.specs.declared.Move.{Move}
 use Rattle.meaning.specs.Plan.{Plan, plan_of, constraint_length}
+use Rattle.meaning.specs.declared.Lists.{Lists}
 use Rattle.meaning.specs.Kinds.{total}
 use Rattle.meaning.specs.Moves.{move_length, row_length, verdict_length, moves_of, rows, last, verdicts, work}
 use Rattle.refusals.specs.declared.Refusal.{Refusal}
@@ -123,6 +124,10 @@ input R S workloads outside edges counts visits constraints colouring moves rows
       verdicts = verdicts;
       work = work;
     }
+
+-- and with the lists of the plan as they are lent
+abbrev pub input_by : ℕ → Lists → List ℕ → List ℕ → List ℤ → List ℕ → List ℕ → Input
+input_by R l = input R l.sectors l.workloads.now l.outside.now l.edges.now l.counts.now l.visits.now l.constraints.now
 
 abbrev pub left : Answer → List ℕ → List ℤ → List ℕ → List ℕ → Outcome
 left answer colouring rows verdicts work =

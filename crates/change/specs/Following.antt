@@ -6,7 +6,7 @@ use Rattle.std.proofs.Common.{arith}
 use Rattle.lists.specs.Sums.{sum}
 use Rattle.terms.specs.Distance.{gap}
 use Rattle.meaning.specs.Plan.{Plan, Limits, Coloured, most_regions, most_sectors}
-use Rattle.meaning.specs.Kinds.{whole, border, counts, loads, deviation, total}
+use Rattle.meaning.specs.Kinds.{whole, counts, loads, deviation, total}
 use Rattle.meaning.proofs.Components.{counts-length, counts-at, loads-length, loads-at, ncc-sum}
 use Rattle.meaning.specs.Bounds.{most_load}
 use Rattle.meaning.proofs.BoundLaws.{ncc_bound, load_bound, whole_bound, border_bound}

@@ -16,6 +16,31 @@ pub struct Pair {
     pub new: u64,
 }
 
+impl Pair {
+    // What f makes of each number.
+    fn each<F: Fn(u64) -> u64>(self, f: F) -> Pair
+        requires old { F.pre f self.old }
+        requires new { F.pre f self.new }
+        ensures old { F.post f self.old result.old }
+        ensures new { F.post f self.new result.new }
+    {
+        Pair {
+            old: f(self.old),
+            new: f(self.new),
+        }
+    }
+
+    // The two sectors the other way round.
+    fn turned_round(self) -> Pair
+        ensures { result ≡ record { old = self.new; new = self.old } }
+    {
+        Pair {
+            old: self.new,
+            new: self.old,
+        }
+    }
+}
+
 // The two sectors' components and workloads, and what they pay for the constraints of kind 4.
 #[derive(Clone, Copy)]
 pub struct Sides {
@@ -60,10 +85,7 @@ fn swung(figure: u64, by: Swing) -> u64
 fn less_one(components: Pair) -> Pair
     ensures { result ≡ less_one components }
 {
-    Pair {
-        old: terms::excess(components.old, 1),
-        new: terms::excess(components.new, 1),
-    }
+    components.each(|count| count.saturating_sub(1))
 }
 
 // How far each workload is from the average, times the number of sectors.
@@ -72,13 +94,11 @@ fn off_balance(sectors: u64, whole: u64, workloads: Pair) -> Pair
     requires at_most { AtMost most_load workloads }
     ensures { result ≡ off_balance sectors whole workloads }
 {
-    Pair {
-        old: terms::apart(sectors * workloads.old, whole),
-        new: terms::apart(sectors * workloads.new, whole),
-    }
+    workloads.each(|workload| (sectors * workload).abs_diff(whole))
 }
 
 // The figures after the change.
+#[tactic(auto, unfolding(crate::specs::Shift::figures_after))]
 pub fn figures_after(sectors: u64, whole: u64, figures: Figures, change: Change) -> Figures
     requires { Shifting sectors whole figures change }
     ensures { result ≡ figures_after sectors whole figures change }
@@ -109,22 +129,10 @@ pub fn figures_after(sectors: u64, whole: u64, figures: Figures, change: Change)
 pub fn turned_round(sides: Sides) -> Sides
     ensures { result ≡ turned_round sides }
 {
-    let components = Pair {
-        old: sides.components.new,
-        new: sides.components.old,
-    };
-    let workloads = Pair {
-        old: sides.workloads.new,
-        new: sides.workloads.old,
-    };
-    let prices = Pair {
-        old: sides.prices.new,
-        new: sides.prices.old,
-    };
     Sides {
-        components,
-        workloads,
-        prices,
+        components: sides.components.turned_round(),
+        workloads: sides.workloads.turned_round(),
+        prices: sides.prices.turned_round(),
     }
 }
 

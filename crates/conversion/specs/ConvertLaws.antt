@@ -1,17 +1,15 @@
 -- Converting: when the first sheet carries contents, that the lists that are held make their sheet, and that each way out leaves the outcome.
 -- Assumes nothing.
-use Prim.Native.Nat.{ℕ, ◌*◌, ◌/◌, ◌^◌, ◌≤◌, ◌<◌}
+use Prim.Native.Nat.{ℕ, ◌+◌, ◌*◌, ◌/◌, ◌≤◌, ◌<◌}
 use Rattle.std.proofs.Common.{arith, ◌∙◌, take_all, length-take-le}
-use Rattle.std.specs.Prelude.{◌≡◌, refl, Bool, true, false, eqb, length, take}
+use Rattle.std.specs.Prelude.{◌≡◌, refl, Bool, true, false, not, ◌&&◌, Option, None, Some, is_some, eqb, length, take}
+use Rattle.std.specs.List.{list_all}
 use Rattle.std.proofs.Math.Path.{sym, ap}
 use Rattle.std.proofs.Math.Bool.{and-false}
-use mathlib.Core.List.{List}
-use borrow.Author.Tests.{eqb-true, eq-eqb, ne_eqb, lt-leb, le-leb}
-use Rattle.lists.specs.Sums.{sum}
-use Rattle.lists.specs.SumLaws.{few_bound}
-use Rattle.lists.specs.Tests.{test-same}
-use Rattle.meaning.specs.Plan.{constraint_length, most_regions, most_area}
-use Rattle.scans.specs.Items.{first_off, constraint_right}
+use mathlib.Core.List.{List, [], ◌∷◌}
+use borrow.Author.Tests.{ne_eqb, lt-leb, le-leb}
+use Rattle.meaning.specs.Plan.{constraint_length}
+use Rattle.scans.specs.Items.{first_off, constraint_right, place_of}
 use Rattle.refusals.specs.declared.Refusal.{Refusal}
 use Rattle.refusals.specs.Table.{refused, refusal}
 use Rattle.blocks.specs.Block.{block_length}
@@ -33,37 +31,39 @@ use Rattle.writing.specs.declared.Written.{Written}
 use Rattle.writing.specs.Promise.{sheet_bytes, Outcome, refused_answer, written_answer, contents, left}
 use Rattle.writing.specs.Sections.{SoMany, numbers_with}
 use Rattle.conversion.specs.Promise.{all_zero, carries, last_rows, convert_refusal, outcome, Promise}
-use Rattle.conversion.specs.Carried.{carried_head, head_carried, limits-carried, zero-sum, kinds_right_lem, carried-whole}
+use Rattle.conversion.specs.Carried.{carried_head, head_carried, limits-carried, kinds_right_lem, carried-whole}
 
 -- ---- when the first sheet carries contents
 
--- outside areas are tested to be all 0 by their sum
-zeros-sum : (xs : List ℕ) → all_zero xs ≡ eqb (sum xs (λ x. x)) 0
-zeros-sum xs = test-same _ _ (λ e. eq-eqb _ 0 ((zero-sum xs).0 e)) (λ e. (zero-sum xs).1 (eqb-true _ 0 e))
+-- outside areas are tested one after the other to be 0
+same_zeros : (xs : List ℕ) → all_zero xs ≡ list_all (λ x. eqb x 0) xs
+same_zeros [] = refl
+same_zeros (x ∷ xs) = ap (λ (b : Bool). eqb x 0 && b) (same_zeros xs)
 
-module _ (k : Contents) where
-  -- it doesn't carry contents whose outside areas add up to something
-  pub some_outside : {xs : List ℕ} {n : ℕ} → xs ≡ k.outside → n ≡ sum xs (λ x. x) → (n ≡ 0 → ⊥) → false ≡ carries First k
+-- no item is off where its place is 0
+none_place : (o : Option ℕ) (r : Bool) → is_some o ≡ not r → r ≡ eqb (place_of o) 0
+none_place None true e = refl
+none_place None false e = absurd (cc)
+none_place (Some k) true e = absurd (cc)
+none_place (Some k) false e = sym (ne_eqb (k + 1) 0 (λ z. omega arith))
+
+module _ (k : Contents) {xs : List ℕ} {a : Bool} (o : xs ≡ k.outside) (p : a ≡ list_all (λ x. eqb x 0) xs) where
+  -- it doesn't carry contents with an outside area but 0
+  pub some_outside : a ≡ false → false ≡ carries First k
   unfolding carries
-  some_outside {n = n} o s m = rw (zeros-sum k.outside, ← o, ← s, ne_eqb n 0 m)
+  some_outside f = rw (same_zeros k.outside, ← o, ← p, f)
 
-  -- nor those with flights
-  pub some_flights : {n : ℕ} → length k.counts ≡ n → (n ≡ 0 → ⊥) → false ≡ carries First k
-  unfolding carries
-  some_flights {n} e m = rw (e, ne_eqb n 0 m, and-false (all_zero k.outside))
-
-  module _ (z : (contents_refusal Second k).code ≡ 0) where
-    -- outside areas that the second sheet takes add up to a number that fits
-    pub outside_fits : {xs : List ℕ} → xs ≡ k.outside → sum xs (λ x. x) < 2 ^ 64
-    outside_fits o =
-        let l = (valid_contents Second k z).limits in
-        rw o (omega (arith, few_bound most_regions most_area k.outside (λ x. x) (omega (arith, l.outside, l.R.high)) l.outside_area))
-
-    -- without outside areas and flights, it carries them where each constraint is right by its kinds
-    pub kinds_only : {xs cs : List ℕ} {n f m : ℕ} → xs ≡ k.outside → n ≡ sum xs (λ x. x) → n ≡ 0 → length k.counts ≡ f → f ≡ 0
-        → cs ≡ k.constraints → m ≡ first_off (length cs / constraint_length) (constraint_right (kind_count First) cs) → eqb m 0 ≡ carries First k
+  module _ {ns : List ℕ} {e : Bool} (n : ns ≡ k.counts) (q : e ≡ eqb (length ns) 0) where
+    -- nor those with flights
+    pub some_flights : e ≡ false → false ≡ carries First k
     unfolding carries
-    kinds_only o s a e b t m = rw (zeros-sum k.outside, ← o, ← s, a, e, b, ← kinds_right_lem k z, m, t)
+    some_flights f = rw (← n, ← q, f, and-false (all_zero k.outside))
+
+    -- without either, it carries them where each constraint is right by its kinds
+    pub kinds_only : (contents_refusal Second k).code ≡ 0 → {cs : List ℕ} (m : Option ℕ) {r : Bool} → a ≡ true → e ≡ true → cs ≡ k.constraints
+        → place_of m ≡ first_off (length cs / constraint_length) (constraint_right (kind_count First) cs) → is_some m ≡ not r → r ≡ carries First k
+    unfolding carries
+    kinds_only z m {r} f g t d i = rw (none_place m r i, d, t, kinds_right_lem k z, same_zeros k.outside, ← o, ← p, f, ← n, ← q, g)
 
 -- ---- the sheet of what is held
 

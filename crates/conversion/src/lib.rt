@@ -16,17 +16,15 @@ ghost use Rattle.conversion.specs.Carried.{carried_head};
 use blocks::BLOCK_LENGTH;
 use form::sections::all_blocks;
 use form::{Form, Head};
-use holding::places::{
-    colouring_in, constraints_in, counts_in, edges_in, outside_in, visits_in, workloads_in,
-};
+use holding::places::{colouring_in, lists_in};
 use holding::{MOST_HELD, hold};
-use lists::sum_of;
+use meaning::Lists;
 use refusals::Refusal;
 use scans::first_bad_constraint;
 use sheet::opening::head_in;
 use terms::limits::BOUNDED;
+use writing::Written;
 use writing::sections::write_contents;
-use writing::{Written, refused};
 
 // The head of what a form carries: the first sheet has no flights.
 fn carried_head(to: Form, head: Head) -> Head
@@ -34,12 +32,9 @@ fn carried_head(to: Form, head: Head) -> Head
 {
     match to {
         Form::First => Head {
-            regions: head.regions,
-            sectors: head.sectors,
-            edges: head.edges,
-            constraints: head.constraints,
             flights: 0,
             visits: 0,
+            ..head
         },
         Form::Second => head,
     }
@@ -51,13 +46,10 @@ fn first_carries(head: Head, held: &[u64]) -> bool
     requires held_value { (contents_refusal Second (contents_held head held.now)).code ≡ 0 }
     ensures { result ≡ carries First (contents_held head held.now) }
 {
-    if sum_of(outside_in(held, head)) != 0 {
-        return false;
-    }
-    if head.flights != 0 {
-        return false;
-    }
-    first_bad_constraint(BOUNDED, constraints_in(held, head)) == 0
+    let lists = lists_in(held, head);
+    lists.outside.iter().all(|area| *area == 0)
+        && lists.counts.is_empty()
+        && first_bad_constraint(BOUNDED, lists.constraints).is_none()
 }
 
 // Whether a form carries what is held.
@@ -77,20 +69,13 @@ fn write_held(to: Form, converted: &mut [u8], head: Head, held: &[u64])
     requires { HasBlocks to converted.old head × (most_held ≤ length held.now) }
     ensures { converted.new ≡ over (sheet_of to (contents_held head held.now)) converted.old }
 {
-    let outside = outside_in(held, head);
+    let lists = lists_in(held, head);
     let stored = to.outside_count(head.regions) as usize;
-    write_contents(
-        to,
-        converted,
-        head,
-        workloads_in(held, head),
-        &outside[..stored],
-        edges_in(held, head),
-        counts_in(held, head),
-        visits_in(held, head),
-        constraints_in(held, head),
-        colouring_in(held, head),
-    );
+    let carried = Lists {
+        outside: &lists.outside[..stored],
+        ..lists
+    };
+    write_contents(to, converted, head, carried, colouring_in(held, head));
 }
 
 // Converts a sheet of one form into one of another in the lent bytes; a converting that is refused answers why and changes nothing.
@@ -98,17 +83,16 @@ fn convert(from: Form, to: Form, sheet: &[u8], converted: &mut [u8]) -> Written
     ensures { Promise from to sheet.now converted.old (left result converted.new) }
 {
     let mut held = [0u64; MOST_HELD];
-    let refusal = hold(from, sheet, &mut held);
-    if refusal.code != 0 {
-        return refused(refusal);
+    if let Err(refusal) = hold(from, sheet, &mut held) {
+        return Written::from(refusal);
     }
     let head = head_in(from, sheet);
     let bytes = BLOCK_LENGTH * all_blocks(to, carried_head(to, head));
     if converted.len() < bytes {
-        return refused(Refusal { code: 40, place: 0 });
+        return Written::from(Refusal { code: 40, place: 0 });
     }
     if !carries_whole(to, head, &held) {
-        return refused(Refusal { code: 41, place: 0 });
+        return Written::from(Refusal { code: 41, place: 0 });
     }
     write_held(to, converted, head, &held);
     Written {

@@ -1,6 +1,6 @@
 -- A move by its three numbers: whether it is made, what it asks for, which status it has.
 -- Assumes nothing.
-use Rattle.std.specs.Prelude.{ℕ, ◌≡◌, ◌≢◌, ◌⊎◌, Bool, [], ◌∷◌, eqb, leb, ℤ, pos}
+use Rattle.std.specs.Prelude.{ℕ, ◌≡◌, ◌≢◌, ◌⊎◌, Bool, [], ◌∷◌, eqb, leb, ℤ, pos, Some, None}
 use Rattle.std.proofs.Common.{arith, inl, inr, ne_eqb}
 use Rattle.std.proofs.Math.Decide.{ℕ_discrete}
 use Rattle.std.proofs.Math.Path.{refl}
@@ -8,8 +8,6 @@ use Rattle.std.proofs.Math.Bool.{true, false, cond, and-false}
 use Rattle.terms.specs.Plan.{within, region_of, sector_of}
 use Rattle.terms.specs.Moves.{no_kind, no_region, no_second, recolouring, exchange, question, of_region, move_of, status, numbers}
 use Rattle.terms.specs.MoveLaws.{accepted-numbers}
-use Rattle.terms.specs.declared.MadeRegion.TheVariants as region
-use Rattle.terms.specs.declared.MadeSector.TheVariants as sector
 use Rattle.terms.specs.declared.Move.{Move}
 use Rattle.terms.specs.declared.Move.TheVariants.{Recolour, Exchange, Ask, Refused}
 use Rattle.meaning.specs.Moves.{made}
@@ -74,11 +72,11 @@ module _ (R S kind a b : ℕ) where
   unfolding move_of of_region recolouring exchange question status_of
   status-numbers = by_kind (within 1 kind 5)
     where
-      by_sector : (t : Bool) → status (recolouring (eqb kind 2) (record { 0 = a }) (cond t (sector.Made (record { 0 = b })) sector.Refused)) ≡ cond t 0 no_second
+      by_sector : (t : Bool) → status (recolouring (eqb kind 2) (record { 0 = a }) (cond t (Some (record { 0 = b })) None)) ≡ cond t 0 no_second
       by_sector true = refl
       by_sector false = refl
 
-      by_region : (t : Bool) → status (exchange (eqb kind 4) (record { 0 = a }) (cond t (region.Made (record { 0 = b })) region.Refused)) ≡ cond t 0 no_second
+      by_region : (t : Bool) → status (exchange (eqb kind 4) (record { 0 = a }) (cond t (Some (record { 0 = b })) None)) ≡ cond t 0 no_second
       by_region true = refl
       by_region false = refl
 
@@ -92,7 +90,7 @@ module _ (R S kind a b : ℕ) where
       by_second false true = by_region (within 1 b R)
       by_second false false = by_zero (eqb b 0)
 
-      by_first : (t : Bool) → status (of_region R S kind (cond t (region.Made (record { 0 = a })) region.Refused) b) ≡ cond t (cond (second_right R S kind b) 0 no_second) no_region
+      by_first : (t : Bool) → status (of_region R S kind (cond t (Some (record { 0 = a })) None) b) ≡ cond t (cond (second_right R S kind b) 0 no_second) no_region
       by_first true = by_second (leb kind 2) (leb kind 4)
       by_first false = refl
 

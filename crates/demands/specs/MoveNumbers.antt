@@ -4,8 +4,6 @@ use Rattle.std.specs.Prelude.{ℕ, ◌≡◌, ◌⊎◌, Bool, ◌&&◌, ◌||�
 use Rattle.std.proofs.Math.Bool.{false, cond}
 use Rattle.terms.specs.Plan.{within}
 use Rattle.terms.specs.Moves.{no_kind, no_region, no_second, status, numbers}
-use Rattle.terms.specs.declared.MadeRegion.TheVariants as region
-use Rattle.terms.specs.declared.MadeSector.TheVariants as sector
 use Rattle.terms.specs.declared.Move.{Move}
 use Rattle.terms.specs.declared.Move.TheVariants.{Recolour, Exchange, Ask}
 use Rattle.meaning.specs.Moves.{made}

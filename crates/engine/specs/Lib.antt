@@ -1,6 +1,7 @@
 pub mod State
 pub mod Flown
 pub mod Sorted
+pub mod Prepared
 pub mod Memory
 pub mod Turning
 pub mod Swapping

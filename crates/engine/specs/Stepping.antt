@@ -10,7 +10,7 @@ use Rattle.terms.specs.declared.Move.{Move}
 use Rattle.terms.specs.declared.Move.TheVariants.{Recolour, Exchange, Ask, Refused}
 use Rattle.meaning.specs.Plan.{Plan}
 use Rattle.meaning.specs.Kinds.{total, region_violation}
-use Rattle.meaning.specs.Moves.{recolour, swap, made, next, change, delta}
+use Rattle.meaning.specs.Moves.{recolour, swap, next, change, delta}
 use Rattle.meaning.proofs.MoveLaws.{relabelled-none}
 use Rattle.meaning.proofs.BoundLaws.{total_bound, region_bound}
 use Rattle.meaning.proofs.Deltas.{delta_reads}

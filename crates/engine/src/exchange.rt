@@ -1,7 +1,7 @@
 // An exchange, probed or made: two recolourings in turn, the first region to the sector of the second, then the second to the old sector of the first.
 ghost use Rattle.std.specs.Prelude.{◌≡◌, length};
 ghost use Rattle.lists.specs.Sums.{at};
-ghost use Rattle.meaning.specs.Plan.{Plan, plan_of, constraints_of};
+ghost use Rattle.meaning.specs.Plan.{constraints_of};
 ghost use Rattle.meaning.specs.Prices.{limited as limitedOf};
 ghost use Rattle.meaning.specs.Joined.{labels as labelsOf};
 ghost use Rattle.meaning.specs.Kinds.{total};
@@ -15,72 +15,45 @@ ghost use Rattle.engine.specs.Turning.{Followed};
 ghost use Rattle.engine.specs.Remade.{Remade};
 ghost use Rattle.engine.specs.Swapping.{Swapping};
 ghost use Rattle.engine.specs.Exchanging.{Exchanging};
-ghost use Rattle.engine.specs.Flown.{Flown};
-ghost use Rattle.engine.specs.Sorted.{Sorted, Paid};
+ghost use Rattle.engine.specs.Sorted.{Paid};
+ghost use Rattle.engine.specs.Prepared.{plan_prepared, SortedBy, FlownBy};
 
 use crate::memory::{differing, sides_in};
 use crate::settle::settle;
 use crate::turn::{Turned, change_anew, change_at, turn};
-use crate::{Made, Standing};
+use crate::{Made, Prepared, Standing};
 use change::{Change, Sides, figures_after, in_turn, turned_round};
 use judge::verdicts::total;
 use lists::copy;
 use terms::limits::MOST_REGIONS;
+use terms::{Region, Sector};
 
 // What giving two regions of different sectors each other's sector would change.
 fn change_both(
-    sectors: u64,
-    workloads: &[u64],
-    outside: &[u64],
-    edges: &[u64],
-    counts: &[u64],
-    visits: &[u64],
-    constraints: &[u64],
-    limited: &[u64],
-    start: &[u64],
-    near: &[u64],
-    areas: &[u64],
-    timed: &[u64],
-    visited: &[u64],
-    flights: &[u64],
-    firsts: &[u64],
+    prepared: Prepared,
     colouring: &mut [u64],
     work: &[u64],
     prices: &[u64],
     queue: &mut [u64],
     known: &mut [u64],
     clock: u64,
-    first: u64,
-    second: u64,
+    first: Region,
+    second: Region,
 ) -> Change
-    requires paid { let P = plan_of (length workloads.now) sectors workloads.now outside.now edges.now counts.now visits.now constraints.now in Paid P colouring.old limited.now prices.now }
-    requires remembered { let P = plan_of (length workloads.now) sectors workloads.now outside.now edges.now counts.now visits.now constraints.now in Remembered P.R P.S P.edges colouring.old clock known.old }
-    requires swapping { let P = plan_of (length workloads.now) sectors workloads.now outside.now edges.now counts.now visits.now constraints.now in Swapping P start.now near.now areas.now colouring.old queue.old first second }
-    requires kept { let P = plan_of (length workloads.now) sectors workloads.now outside.now edges.now counts.now visits.now constraints.now in Kept P colouring.old work.now }
-    requires flown { let P = plan_of (length workloads.now) sectors workloads.now outside.now edges.now counts.now visits.now constraints.now in Flown P timed.now counts.now visits.now visited.now flights.now firsts.now }
-    ensures remembered { let P = plan_of (length workloads.now) sectors workloads.now outside.now edges.now counts.now visits.now constraints.now in Remembered P.R P.S P.edges colouring.old clock known.new }
-    ensures changed { let P = plan_of (length workloads.now) sectors workloads.now outside.now edges.now counts.now visits.now constraints.now in Changed P colouring.old (swap colouring.old first second) (at colouring.old first) (at colouring.old second) result }
+    requires paid { let P = plan_prepared prepared in Paid P colouring.old prepared.limited.now prices.now }
+    requires remembered { let P = plan_prepared prepared in Remembered P.R P.S P.edges colouring.old clock known.old }
+    requires swapping { let P = plan_prepared prepared in Swapping P prepared.faces.start.now prepared.faces.near.now prepared.faces.areas.now colouring.old queue.old first.0 second.0 }
+    requires kept { let P = plan_prepared prepared in Kept P colouring.old work.now }
+    requires flown { FlownBy prepared }
+    ensures remembered { let P = plan_prepared prepared.entry in Remembered P.R P.S P.edges colouring.old clock known.new }
+    ensures changed { let P = plan_prepared prepared.entry in Changed P colouring.old (swap colouring.old first.0 second.0) (at colouring.old first.0) (at colouring.old second.0) result }
     ensures colouring_after { colouring.new ≡ colouring.old }
 {
-    let z = first as usize - 1;
+    let z = first.0 as usize - 1;
     let own = colouring[z];
-    let other = colouring[second as usize - 1];
+    let other = colouring[second.0 as usize - 1];
     let once = change_at(
-        sectors,
-        workloads,
-        outside,
-        edges,
-        counts,
-        visits,
-        constraints,
-        limited,
-        start,
-        near,
-        areas,
-        timed,
-        visited,
-        flights,
-        firsts,
+        prepared,
         colouring,
         work,
         prices,
@@ -88,30 +61,16 @@ fn change_both(
         known,
         clock,
         first,
-        other,
+        Sector(other),
     );
     colouring[z] = other;
     let twice = change_anew(
-        sectors,
-        workloads,
-        outside,
-        edges,
-        counts,
-        visits,
-        constraints,
-        limited,
-        start,
-        near,
-        areas,
-        timed,
-        visited,
-        flights,
-        firsts,
+        prepared,
         colouring,
         queue,
         turned_round(once.after),
         second,
-        own,
+        Sector(own),
     );
     colouring[z] = own;
     in_turn(once, twice)
@@ -119,23 +78,7 @@ fn change_both(
 
 // The total if the two regions were given each other's sectors; all is left as it was, but for what is known of pieces.
 pub fn probe(
-    sectors: u64,
-    whole: u64,
-    workloads: &[u64],
-    outside: &[u64],
-    edges: &[u64],
-    counts: &[u64],
-    visits: &[u64],
-    constraints: &[u64],
-    shared: &[u64],
-    limited: &[u64],
-    start: &[u64],
-    near: &[u64],
-    areas: &[u64],
-    timed: &[u64],
-    visited: &[u64],
-    flights: &[u64],
-    firsts: &[u64],
+    prepared: Prepared,
     colouring: &mut [u64],
     work: &[u64],
     prices: &[u64],
@@ -143,49 +86,32 @@ pub fn probe(
     known: &mut [u64],
     clock: u64,
     standing: Standing,
-    first: u64,
-    second: u64,
+    first: Region,
+    second: Region,
 ) -> u64
-    requires sorted { let P = plan_of (length workloads.now) sectors workloads.now outside.now edges.now counts.now visits.now constraints.now in Sorted P shared.now limited.now }
-    requires remembered { let P = plan_of (length workloads.now) sectors workloads.now outside.now edges.now counts.now visits.now constraints.now in Remembered P.R P.S P.edges colouring.old clock known.old }
-    requires exchanging { let P = plan_of (length workloads.now) sectors workloads.now outside.now edges.now counts.now visits.now constraints.now in Exchanging P whole start.now near.now areas.now colouring.old work.now prices.now queue.old standing first second }
-    requires flown { let P = plan_of (length workloads.now) sectors workloads.now outside.now edges.now counts.now visits.now constraints.now in Flown P timed.now counts.now visits.now visited.now flights.now firsts.now }
-    ensures remembered { let P = plan_of (length workloads.now) sectors workloads.now outside.now edges.now counts.now visits.now constraints.now in Remembered P.R P.S P.edges colouring.old clock known.new }
-    ensures r_value { let P = plan_of (length workloads.now) sectors workloads.now outside.now edges.now counts.now visits.now constraints.now in result ≡ total P (swap colouring.old first second) }
+    requires sorted { SortedBy prepared }
+    requires remembered { let P = plan_prepared prepared in Remembered P.R P.S P.edges colouring.old clock known.old }
+    requires exchanging { let P = plan_prepared prepared in Exchanging P prepared.whole prepared.faces.start.now prepared.faces.near.now prepared.faces.areas.now colouring.old work.now prices.now queue.old standing first.0 second.0 }
+    requires flown { FlownBy prepared }
+    ensures remembered { let P = plan_prepared prepared.entry in Remembered P.R P.S P.edges colouring.old clock known.new }
+    ensures r_value { let P = plan_prepared prepared.entry in result ≡ total P (swap colouring.old first.0 second.0) }
     ensures colouring_after { colouring.new ≡ colouring.old }
 {
-    let own = colouring[first as usize - 1];
-    let other = colouring[second as usize - 1];
+    let own = colouring[first.0 as usize - 1];
+    let other = colouring[second.0 as usize - 1];
     if own == other {
         return standing.total;
     }
     let change = change_both(
-        sectors,
-        workloads,
-        outside,
-        edges,
-        counts,
-        visits,
-        constraints,
-        limited,
-        start,
-        near,
-        areas,
-        timed,
-        visited,
-        flights,
-        firsts,
-        colouring,
-        work,
-        prices,
-        queue,
-        known,
-        clock,
-        first,
-        second,
+        prepared, colouring, work, prices, queue, known, clock, first, second,
     );
-    let figures = figures_after(sectors, whole, standing.figures, change);
-    total(shared, figures)
+    let figures = figures_after(
+        prepared.lists.sectors,
+        prepared.whole,
+        standing.figures,
+        change,
+    );
+    total(prepared.shared, figures)
 }
 
 // What two recolourings in turn change together, with the new labels counted from before both.
@@ -200,148 +126,77 @@ fn together(once: Turned, twice: Turned, relabelled: u64) -> Turned
 
 // Gives two regions of different sectors each other's sector in the colouring, brings the labels up to date, and answers what that changes, by what the two sectors have before it.
 fn turn_both(
-    sectors: u64,
-    workloads: &[u64],
-    outside: &[u64],
-    edges: &[u64],
-    counts: &[u64],
-    visits: &[u64],
-    constraints: &[u64],
-    limited: &[u64],
-    start: &[u64],
-    near: &[u64],
-    areas: &[u64],
-    timed: &[u64],
-    visited: &[u64],
-    flights: &[u64],
-    firsts: &[u64],
+    prepared: Prepared,
     colouring: &mut [u64],
     labels: &mut [u64],
     queue: &mut [u64],
     before: Sides,
-    first: u64,
-    second: u64,
+    first: Region,
+    second: Region,
 ) -> Turned
-    requires limited_value { let P = plan_of (length workloads.now) sectors workloads.now outside.now edges.now counts.now visits.now constraints.now in constraints_of limited.now ≡ limitedOf P.constraints }
-    requires swapping { let P = plan_of (length workloads.now) sectors workloads.now outside.now edges.now counts.now visits.now constraints.now in Swapping P start.now near.now areas.now colouring.old queue.old first second }
-    requires before_value { let P = plan_of (length workloads.now) sectors workloads.now outside.now edges.now counts.now visits.now constraints.now in before ≡ sides_of P colouring.old (at colouring.old first) (at colouring.old second) }
-    requires labels_value { let P = plan_of (length workloads.now) sectors workloads.now outside.now edges.now counts.now visits.now constraints.now in labels.old ≡ labelsOf P.edges colouring.old }
-    requires flown { let P = plan_of (length workloads.now) sectors workloads.now outside.now edges.now counts.now visits.now constraints.now in Flown P timed.now counts.now visits.now visited.now flights.now firsts.now }
-    ensures { let P = plan_of (length workloads.now) sectors workloads.now outside.now edges.now counts.now visits.now constraints.now in Followed P colouring.old (swap colouring.old first second) (at colouring.old first) (at colouring.old second) colouring.new labels.new result }
+    requires limited_value { let P = plan_prepared prepared in constraints_of prepared.limited.now ≡ limitedOf P.constraints }
+    requires swapping { let P = plan_prepared prepared in Swapping P prepared.faces.start.now prepared.faces.near.now prepared.faces.areas.now colouring.old queue.old first.0 second.0 }
+    requires before_value { let P = plan_prepared prepared in before ≡ sides_of P colouring.old (at colouring.old first.0) (at colouring.old second.0) }
+    requires labels_value { let P = plan_prepared prepared in labels.old ≡ labelsOf P.edges colouring.old }
+    requires flown { FlownBy prepared }
+    ensures { let P = plan_prepared prepared.entry in Followed P colouring.old (swap colouring.old first.0 second.0) (at colouring.old first.0) (at colouring.old second.0) colouring.new labels.new result }
 {
-    let regions = workloads.len();
-    let from = colouring[first as usize - 1];
-    let to = colouring[second as usize - 1];
+    let regions = prepared.lists.workloads.len();
+    let from = colouring[first.0 as usize - 1];
+    let to = colouring[second.0 as usize - 1];
+    // A copy in fixed memory, since both recolourings write the labels.
     let mut old = [0u64; MOST_REGIONS as usize];
     copy(labels, &mut old);
     let once = turn(
-        sectors,
-        workloads,
-        outside,
-        edges,
-        counts,
-        visits,
-        constraints,
-        limited,
-        start,
-        near,
-        areas,
-        timed,
-        visited,
-        flights,
-        firsts,
+        prepared,
         colouring,
         labels,
         queue,
         before,
         first,
-        to,
+        Sector(to),
     );
     let between = turned_round(once.change.after);
     let twice = turn(
-        sectors,
-        workloads,
-        outside,
-        edges,
-        counts,
-        visits,
-        constraints,
-        limited,
-        start,
-        near,
-        areas,
-        timed,
-        visited,
-        flights,
-        firsts,
+        prepared,
         colouring,
         labels,
         queue,
         between,
         second,
-        from,
+        Sector(from),
     );
     together(once, twice, differing(&old[..regions], labels))
 }
 
 // Gives the two regions each other's sectors, and answers what stands then and how many labels are new after both recolourings.
 pub fn make(
-    sectors: u64,
-    whole: u64,
-    workloads: &[u64],
-    outside: &[u64],
-    edges: &[u64],
-    counts: &[u64],
-    visits: &[u64],
-    constraints: &[u64],
-    shared: &[u64],
-    limited: &[u64],
-    start: &[u64],
-    near: &[u64],
-    areas: &[u64],
-    timed: &[u64],
-    visited: &[u64],
-    flights: &[u64],
-    firsts: &[u64],
+    prepared: Prepared,
     colouring: &mut [u64],
     work: &mut [u64],
     prices: &mut [u64],
     queue: &mut [u64],
     standing: Standing,
-    first: u64,
-    second: u64,
+    first: Region,
+    second: Region,
 ) -> Made
-    requires sorted { let P = plan_of (length workloads.now) sectors workloads.now outside.now edges.now counts.now visits.now constraints.now in Sorted P shared.now limited.now }
-    requires exchanging { let P = plan_of (length workloads.now) sectors workloads.now outside.now edges.now counts.now visits.now constraints.now in Exchanging P whole start.now near.now areas.now colouring.old work.old prices.old queue.old standing first second }
-    requires flown { let P = plan_of (length workloads.now) sectors workloads.now outside.now edges.now counts.now visits.now constraints.now in Flown P timed.now counts.now visits.now visited.now flights.now firsts.now }
-    ensures { let P = plan_of (length workloads.now) sectors workloads.now outside.now edges.now counts.now visits.now constraints.now in Remade P colouring.old work.old (swap colouring.old first second) colouring.new work.new prices.new result }
+    requires sorted { SortedBy prepared }
+    requires exchanging { let P = plan_prepared prepared in Exchanging P prepared.whole prepared.faces.start.now prepared.faces.near.now prepared.faces.areas.now colouring.old work.old prices.old queue.old standing first.0 second.0 }
+    requires flown { FlownBy prepared }
+    ensures { let P = plan_prepared prepared.entry in Remade P colouring.old work.old (swap colouring.old first.0 second.0) colouring.new work.new prices.new result }
 {
-    let from = colouring[first as usize - 1];
-    let to = colouring[second as usize - 1];
+    let from = colouring[first.0 as usize - 1];
+    let to = colouring[second.0 as usize - 1];
     if from == to {
         return Made {
             standing,
             relabelled: 0,
         };
     }
-    let regions = workloads.len();
-    let before = sides_in(work, prices, regions, sectors, from, to);
+    let regions = prepared.lists.workloads.len();
+    let before = sides_in(work, prices, regions, prepared.lists.sectors, from, to);
     let turned = turn_both(
-        sectors,
-        workloads,
-        outside,
-        edges,
-        counts,
-        visits,
-        constraints,
-        limited,
-        start,
-        near,
-        areas,
-        timed,
-        visited,
-        flights,
-        firsts,
+        prepared,
         colouring,
         &mut work[..regions],
         queue,
@@ -350,15 +205,7 @@ pub fn make(
         second,
     );
     let settled = settle(
-        sectors,
-        whole,
-        workloads,
-        outside,
-        edges,
-        counts,
-        visits,
-        constraints,
-        shared,
+        prepared,
         colouring,
         work,
         prices,

@@ -2,19 +2,21 @@
 #![tactic(auto)]
 
 ghost use Rattle.std.specs.Prelude.{◌≡◌, ◌+◌, ◌<◌, ◌^◌, length, pos, ◌-ℤ◌};
-ghost use Rattle.meaning.specs.Plan.{Plan, plan_of, most_moves};
+ghost use Rattle.meaning.specs.Plan.{most_moves};
 ghost use Rattle.meaning.specs.Moves.{next};
 ghost use Rattle.search.specs.Remembered.{Remembered};
-ghost use Rattle.engine.specs.State.{Setting, Ready, Within, Opening, Opened, Answered};
+ghost use Rattle.engine.specs.State.{Ready, Within, Opening, Opened, Answered};
 ghost use Rattle.kinds.specs.Paid.{weights_of};
-ghost use Rattle.engine.specs.Sorted.{Sorted};
-ghost use Rattle.engine.specs.Flown.{Priced, Flown};
+ghost use Rattle.engine.specs.Prepared.{plan_prepared, SortedBy, SettingBy, PricedBy, FlownBy};
 
 use judge::Figures;
 use kinds::Weights;
 use lists::sum_of;
+use meaning::Lists;
+use neighbours::Faces;
 use search::raise;
 use terms::Move;
+use visitors::Visitors;
 
 pub mod memory; // memory.rt: the front of the work memory
 pub mod turn; // turn.rt: what giving a region to another sector changes
@@ -28,6 +30,18 @@ pub mod ask; // ask.rt: a region's violation
 pub struct Standing {
     pub figures: Figures,
     pub total: u64,
+}
+
+// What is prepared once in a call: the plan's lists, its whole workload, its constraints of kinds 1 to 3 and of kind 4, the faces that its
+// regions share, gathered from its edges, and what the flights that visit a region are priced by.
+#[derive(Clone, Copy)]
+pub struct Prepared<'a> {
+    pub lists: Lists<'a>,
+    pub whole: u64,
+    pub shared: &'a [u64],
+    pub limited: &'a [u64],
+    pub faces: Faces<'a>,
+    pub visitors: Visitors<'a>,
 }
 
 // What stands after a made move, and how many labels it changed.
@@ -55,24 +69,8 @@ fn delta(after: u64, before: u64) -> i64
 
 // Does what a move asks for, and answers it: a probe, a question and a refused move leave all as it was, but for what is known of pieces.
 pub fn step(
-    sectors: u64,
-    whole: u64,
-    workloads: &[u64],
-    outside: &[u64],
-    edges: &[u64],
-    counts: &[u64],
-    visits: &[u64],
-    constraints: &[u64],
-    shared: &[u64],
-    limited: &[u64],
+    prepared: Prepared,
     weights: Weights,
-    start: &[u64],
-    near: &[u64],
-    areas: &[u64],
-    timed: &[u64],
-    visited: &[u64],
-    flights: &[u64],
-    firsts: &[u64],
     colouring: &mut [u64],
     work: &mut [u64],
     prices: &mut [u64],
@@ -82,15 +80,15 @@ pub fn step(
     standing: Standing,
     asked: Move,
 ) -> Stepped
-    requires sorted { let P = plan_of (length workloads.now) sectors workloads.now outside.now edges.now counts.now visits.now constraints.now in Sorted P shared.now limited.now × (weights ≡ weights_of P.constraints) }
-    requires remembered { let P = plan_of (length workloads.now) sectors workloads.now outside.now edges.now counts.now visits.now constraints.now in Remembered P.R P.S P.edges colouring.old clock known.old }
+    requires sorted { let P = plan_prepared prepared in SortedBy prepared × (weights ≡ weights_of P.constraints) }
+    requires remembered { let P = plan_prepared prepared in Remembered P.R P.S P.edges colouring.old clock known.old }
     requires clock_bound { clock < most_moves }
-    requires setting { let P = plan_of (length workloads.now) sectors workloads.now outside.now edges.now counts.now visits.now constraints.now in Setting P whole start.now near.now areas.now queue.old }
-    requires ready { let P = plan_of (length workloads.now) sectors workloads.now outside.now edges.now counts.now visits.now constraints.now in Ready P colouring.old work.old prices.old standing }
-    requires within { let P = plan_of (length workloads.now) sectors workloads.now outside.now edges.now counts.now visits.now constraints.now in Within P asked }
-    requires flown { let P = plan_of (length workloads.now) sectors workloads.now outside.now edges.now counts.now visits.now constraints.now in Flown P timed.now counts.now visits.now visited.now flights.now firsts.now }
-    ensures remembered { let P = plan_of (length workloads.now) sectors workloads.now outside.now edges.now counts.now visits.now constraints.now in Remembered P.R P.S P.edges (next colouring.old asked) (clock + 1) known.new }
-    ensures answered { let P = plan_of (length workloads.now) sectors workloads.now outside.now edges.now counts.now visits.now constraints.now in Answered P colouring.old work.old asked colouring.new work.new prices.new result }
+    requires setting { SettingBy prepared queue.old }
+    requires ready { let P = plan_prepared prepared in Ready P colouring.old work.old prices.old standing }
+    requires within { let P = plan_prepared prepared in Within P asked }
+    requires flown { FlownBy prepared }
+    ensures remembered { let P = plan_prepared prepared.entry in Remembered P.R P.S P.edges (next colouring.old asked) (clock + 1) known.new }
+    ensures answered { let P = plan_prepared prepared.entry in Answered P colouring.old work.old asked colouring.new work.new prices.new result }
 {
     let before = standing.total;
     match asked {
@@ -102,72 +100,32 @@ pub fn step(
             if make {
                 let own = colouring[region.0 as usize - 1];
                 let made = recolour::make(
-                    sectors,
-                    whole,
-                    workloads,
-                    outside,
-                    edges,
-                    counts,
-                    visits,
-                    constraints,
-                    shared,
-                    limited,
-                    start,
-                    near,
-                    areas,
-                    timed,
-                    visited,
-                    flights,
-                    firsts,
-                    colouring,
-                    work,
-                    prices,
-                    queue,
-                    standing,
-                    region.0,
+                    prepared, colouring, work, prices, queue, standing, region, sector,
+                );
+                raise(
+                    known,
+                    prepared.lists.workloads.len(),
+                    clock + 1,
+                    own,
                     sector.0,
                 );
-                raise(known, workloads.len(), clock + 1, own, sector.0);
                 let after = made.standing;
-                return Stepped {
+                Stepped {
                     standing: after,
                     delta: delta(after.total, before),
                     relabelled: made.relabelled,
-                };
+                }
+            } else {
+                let total = recolour::probe(
+                    prepared, colouring, work, prices, queue, known, clock, standing, region,
+                    sector,
+                );
+                Stepped {
+                    standing,
+                    delta: delta(total, before),
+                    relabelled: 0,
+                }
             }
-            let total = recolour::probe(
-                sectors,
-                whole,
-                workloads,
-                outside,
-                edges,
-                counts,
-                visits,
-                constraints,
-                shared,
-                limited,
-                start,
-                near,
-                areas,
-                timed,
-                visited,
-                flights,
-                firsts,
-                colouring,
-                work,
-                prices,
-                queue,
-                known,
-                clock,
-                standing,
-                region.0,
-                sector.0,
-            );
-            return Stepped {
-                standing,
-                delta: delta(total, before),
-                relabelled: 0,
-            };
         }
         Move::Exchange {
             make,
@@ -178,169 +136,82 @@ pub fn step(
                 let own = colouring[first.0 as usize - 1];
                 let other = colouring[second.0 as usize - 1];
                 let made = exchange::make(
-                    sectors,
-                    whole,
-                    workloads,
-                    outside,
-                    edges,
-                    counts,
-                    visits,
-                    constraints,
-                    shared,
-                    limited,
-                    start,
-                    near,
-                    areas,
-                    timed,
-                    visited,
-                    flights,
-                    firsts,
-                    colouring,
-                    work,
-                    prices,
-                    queue,
-                    standing,
-                    first.0,
-                    second.0,
+                    prepared, colouring, work, prices, queue, standing, first, second,
                 );
-                raise(known, workloads.len(), clock + 1, own, other);
+                raise(known, prepared.lists.workloads.len(), clock + 1, own, other);
                 let after = made.standing;
-                return Stepped {
+                Stepped {
                     standing: after,
                     delta: delta(after.total, before),
                     relabelled: made.relabelled,
-                };
+                }
+            } else {
+                let total = exchange::probe(
+                    prepared, colouring, work, prices, queue, known, clock, standing, first, second,
+                );
+                Stepped {
+                    standing,
+                    delta: delta(total, before),
+                    relabelled: 0,
+                }
             }
-            let total = exchange::probe(
-                sectors,
-                whole,
-                workloads,
-                outside,
-                edges,
-                counts,
-                visits,
-                constraints,
-                shared,
-                limited,
-                start,
-                near,
-                areas,
-                timed,
-                visited,
-                flights,
-                firsts,
-                colouring,
-                work,
-                prices,
-                queue,
-                known,
-                clock,
-                standing,
-                first.0,
-                second.0,
-            );
-            return Stepped {
-                standing,
-                delta: delta(total, before),
-                relabelled: 0,
-            };
         }
         Move::Ask(region) => {
             let violation = ask::region_violation(
-                sectors,
-                whole,
-                workloads,
-                outside,
-                edges,
-                counts,
-                visits,
-                constraints,
-                weights,
-                start,
-                near,
-                areas,
-                timed,
-                visited,
-                flights,
-                firsts,
-                colouring,
-                work,
-                prices,
-                region.0,
+                prepared, weights, colouring, work, prices, region,
             );
-            return Stepped {
+            Stepped {
                 standing,
                 delta: delta(violation, 0),
                 relabelled: 0,
-            };
+            }
         }
-        Move::Refused(_) => {
-            return Stepped {
-                standing,
-                delta: 0,
-                relabelled: 0,
-            };
-        }
+        Move::Refused(_) => Stepped {
+            standing,
+            delta: 0,
+            relabelled: 0,
+        },
     }
 }
 
 // Judges the colouring from scratch into the front of the work memory and into the prices of the sectors.
 pub fn begin(
-    sectors: u64,
-    whole: u64,
-    workloads: &[u64],
-    outside: &[u64],
-    edges: &[u64],
-    counts: &[u64],
-    visits: &[u64],
-    constraints: &[u64],
-    shared: &[u64],
-    limited: &[u64],
-    start: &[u64],
-    near: &[u64],
-    areas: &[u64],
-    timed: &[u64],
+    prepared: Prepared,
     colouring: &mut [u64],
     work: &mut [u64],
     prices: &mut [u64],
     queue: &mut [u64],
 ) -> Standing
-    requires sorted { let P = plan_of (length workloads.now) sectors workloads.now outside.now edges.now counts.now visits.now constraints.now in Sorted P shared.now limited.now }
-    requires setting { let P = plan_of (length workloads.now) sectors workloads.now outside.now edges.now counts.now visits.now constraints.now in Setting P whole start.now near.now areas.now queue.old }
-    requires opening { let P = plan_of (length workloads.now) sectors workloads.now outside.now edges.now counts.now visits.now constraints.now in Opening P colouring.old work.old prices.old }
-    requires priced { let P = plan_of (length workloads.now) sectors workloads.now outside.now edges.now counts.now visits.now constraints.now in Priced P timed.now counts.now visits.now }
-    ensures { let P = plan_of (length workloads.now) sectors workloads.now outside.now edges.now counts.now visits.now constraints.now in Opened P colouring.old work.old colouring.new work.new prices.new result }
+    requires sorted { SortedBy prepared }
+    requires setting { SettingBy prepared queue.old }
+    requires opening { let P = plan_prepared prepared in Opening P colouring.old work.old prices.old }
+    requires priced { PricedBy prepared }
+    ensures { let P = plan_prepared prepared.entry in Opened P colouring.old work.old colouring.new work.new prices.new result }
 {
-    memory::lay_out(
-        sectors,
-        workloads,
-        outside,
-        edges,
-        counts,
-        visits,
-        constraints,
-        start,
-        near,
+    memory::lay_out(prepared, colouring, work, queue);
+    let lists = prepared.lists;
+    let visitors = prepared.visitors;
+    let regions = lists.workloads.len();
+    let counts_end = regions + lists.sectors as usize;
+    let loads_end = counts_end + lists.sectors as usize;
+    let border = judge::tallies::border_of(lists.outside, prepared.faces.edges, colouring);
+    let dwell = flights::pricing::price_all(
+        visitors.timed,
+        visitors.counts,
+        visitors.visits,
         colouring,
-        work,
-        queue,
     );
-    let regions = workloads.len();
-    let counts_end = regions + sectors as usize;
-    let loads_end = counts_end + sectors as usize;
-    let border = judge::tallies::border_of(outside, edges, colouring);
-    let dwell = flights::pricing::price_all(timed, counts, visits, colouring);
-    judge::measures::price_all(limited, &work[counts_end..loads_end], prices);
+    judge::measures::price_all(prepared.limited, &work[counts_end..loads_end], prices);
     let bounded = sum_of(prices);
     let figures = judge::measures::figures_of(
-        sectors,
-        whole,
+        lists.sectors,
+        prepared.whole,
         &work[regions..counts_end],
         &work[counts_end..loads_end],
         border,
         bounded,
         dwell,
     );
-    let total = judge::verdicts::total(shared, figures);
+    let total = judge::verdicts::total(prepared.shared, figures);
     Standing { figures, total }
 }

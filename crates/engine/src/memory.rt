@@ -1,16 +1,15 @@
 // The front of the work memory: the labels, then the component count and then the workload sum of each sector.
 ghost use Rattle.std.specs.Prelude.{◌≡◌, ◌++◌, ◌-◌, length, drop};
-ghost use Rattle.meaning.specs.Plan.{Plan, plan_of};
 ghost use Rattle.meaning.specs.Moves.{differing as differingOf};
 ghost use Rattle.engine.specs.State.{memory, memory_length};
 ghost use Rattle.engine.specs.Memory.{Placed, sides_in, sides_put, pair_put};
 ghost use Rattle.engine.specs.Opening.{Blank};
+ghost use Rattle.engine.specs.Prepared.{plan_prepared};
 
+use crate::Prepared;
 use change::{Pair, Sides};
-use lists::copy;
-use terms::limits::MOST_REGIONS;
 
-// The component counts, the workload sums and the prices of two sectors: the one that a region leaves and the one that it comes to.
+// The component counts, the workload sums and the prices of two sectors: the one that a region leaves and the one that it comes to. (Both are plain numbers here and where a change is settled: they are indices, and the first is read off the colouring.)
 pub fn sides_in(
     work: &[u64],
     prices: &[u64],
@@ -78,43 +77,23 @@ pub fn differing(before: &[u64], after: &[u64]) -> u64
     ensures { result ≡ differingOf (length before.now) before.now after.now }
 {
     let mut n = 0;
-    let mut i = 0;
-    while i < before.len() {
-        n += judge::bit_of(before[i] != after[i]);
-        i += 1;
+    for i in 0..before.len() {
+        n += u64::from(before[i] != after[i]);
     }
     n
 }
 
 // Puts down the labels of a colouring, the component counts and the workload sums; what lies beyond stays.
-pub fn lay_out(
-    sectors: u64,
-    workloads: &[u64],
-    outside: &[u64],
-    edges: &[u64],
-    counts: &[u64],
-    visits: &[u64],
-    constraints: &[u64],
-    start: &[u64],
-    near: &[u64],
-    colouring: &mut [u64],
-    work: &mut [u64],
-    queue: &mut [u64],
-)
-    requires { let P = plan_of (length workloads.now) sectors workloads.now outside.now edges.now counts.now visits.now constraints.now in Blank P start.now near.now colouring.old work.old queue.old }
+pub fn lay_out(prepared: Prepared, colouring: &mut [u64], work: &mut [u64], queue: &mut [u64])
+    requires { let P = plan_prepared prepared in Blank P prepared.faces.start.now prepared.faces.near.now colouring.old work.old queue.old }
     ensures colouring_after { colouring.new ≡ colouring.old }
-    ensures work_after { let P = plan_of (length workloads.now) sectors workloads.now outside.now edges.now counts.now visits.now constraints.now in work.new ≡ memory P colouring.old ++ drop (memory_length P) work.old }
+    ensures work_after { let P = plan_prepared prepared.entry in work.new ≡ memory P colouring.old ++ drop (memory_length P) work.old }
 {
-    let regions = workloads.len();
-    let counts_end = regions + sectors as usize;
-    let loads_end = counts_end + sectors as usize;
-    relabel::label_all(edges, start, near, colouring, &mut work[..regions], queue);
-    let mut labels = [0u64; MOST_REGIONS as usize];
-    copy(&work[..regions], &mut labels);
-    judge::tallies::tally_components(
-        &labels[..regions],
-        colouring,
-        &mut work[regions..counts_end],
-    );
-    judge::tallies::tally_workloads(workloads, colouring, &mut work[counts_end..loads_end]);
+    let lists = prepared.lists;
+    let sectors = lists.sectors as usize;
+    let (labels, sums) = work.split_at_mut(lists.workloads.len());
+    let (components, rest) = sums.split_at_mut(sectors);
+    relabel::label_all(prepared.faces, colouring, labels, queue);
+    judge::tallies::tally_components(labels, colouring, components);
+    judge::tallies::tally_workloads(lists.workloads, colouring, &mut rest[..sectors]);
 }

@@ -1,7 +1,7 @@
 // What giving a region to another sector changes: as it would be, and as the colouring and the labels follow it.
 ghost use Rattle.std.specs.Prelude.{◌≡◌, length};
 ghost use Rattle.lists.specs.Sums.{In, at};
-ghost use Rattle.meaning.specs.Plan.{Plan, plan_of, flights_of, constraints_of};
+ghost use Rattle.meaning.specs.Plan.{flights_of, constraints_of};
 ghost use Rattle.meaning.specs.Joined.{labels as labelsOf};
 ghost use Rattle.meaning.specs.Prices.{limited as limitedOf};
 ghost use Rattle.meaning.specs.Moves.{recolour};
@@ -13,33 +13,23 @@ ghost use Rattle.kinds.specs.Constraints.{Paying};
 ghost use Rattle.engine.specs.Memory.{Kept};
 ghost use Rattle.engine.specs.Sorted.{Paid};
 ghost use Rattle.engine.specs.Turning.{Movable, Passing, paid_by, change_of, Turning, Turns, Followed};
-ghost use Rattle.engine.specs.Flown.{Flown};
+ghost use Rattle.engine.specs.Prepared.{plan_prepared, FlownBy};
 
+use crate::Prepared;
 use crate::memory::sides_in;
 use change::{Change, Pair, Sides, Swing};
 use kinds::price;
 use search::{Look, look_anew, look_at, meet};
-use visitors::price_both;
+use terms::{Region, Sector};
+use visitors::{Visitors, price_both};
 
 // What the flights that visit a region gain and lose in price once it is given to the sector.
-fn swing_at(
-    counts: &[u64],
-    visits: &[u64],
-    timed: &[u64],
-    visited: &[u64],
-    flights: &[u64],
-    firsts: &[u64],
-    colouring: &[u64],
-    region: u64,
-    sector: u64,
-) -> Swing
-    requires pricing { Pricing (length colouring.now) timed.now counts.now visits.now visited.now flights.now firsts.now }
-    requires in_range { In (length colouring.now) region }
-    ensures { VisitorsDiffer (constraints_of timed.now) colouring.now region sector (flights_of counts.now visits.now) (record { before = result.lost; after = result.gained }) }
+fn swing_at(visitors: Visitors, colouring: &[u64], region: Region, sector: Sector) -> Swing
+    requires pricing { Pricing (length colouring.now) visitors.timed.now visitors.counts.now visitors.visits.now visitors.starts.now visitors.numbers.now visitors.firsts.now }
+    requires in_range { In (length colouring.now) region.0 }
+    ensures { VisitorsDiffer (constraints_of visitors.entry.timed.now) colouring.now region.0 sector.0 (flights_of visitors.entry.counts.now visitors.entry.visits.now) (record { before = result.lost; after = result.gained }) }
 {
-    let prices = price_both(
-        timed, counts, visits, visited, flights, firsts, colouring, region, sector,
-    );
+    let prices = price_both(visitors, colouring, region.0, sector.0);
     Swing {
         gained: prices.after,
         lost: prices.before,
@@ -94,48 +84,32 @@ fn change_of(before: Sides, workload: u64, prices: Pair, look: Look, dwell: Swin
 
 // What giving the region to another sector would change, by what stands in the work memory and by what is known of pieces.
 pub fn change_at(
-    sectors: u64,
-    workloads: &[u64],
-    outside: &[u64],
-    edges: &[u64],
-    counts: &[u64],
-    visits: &[u64],
-    constraints: &[u64],
-    limited: &[u64],
-    start: &[u64],
-    near: &[u64],
-    areas: &[u64],
-    timed: &[u64],
-    visited: &[u64],
-    flights: &[u64],
-    firsts: &[u64],
+    prepared: Prepared,
     colouring: &mut [u64],
     work: &[u64],
     prices: &[u64],
     queue: &mut [u64],
     known: &mut [u64],
     clock: u64,
-    region: u64,
-    sector: u64,
+    region: Region,
+    sector: Sector,
 ) -> Change
-    requires paid { let P = plan_of (length workloads.now) sectors workloads.now outside.now edges.now counts.now visits.now constraints.now in Paid P colouring.old limited.now prices.now }
-    requires remembered { let P = plan_of (length workloads.now) sectors workloads.now outside.now edges.now counts.now visits.now constraints.now in Remembered P.R P.S P.edges colouring.old clock known.old }
-    requires turning { let P = plan_of (length workloads.now) sectors workloads.now outside.now edges.now counts.now visits.now constraints.now in Turning P start.now near.now areas.now colouring.old queue.old region sector }
-    requires kept { let P = plan_of (length workloads.now) sectors workloads.now outside.now edges.now counts.now visits.now constraints.now in Kept P colouring.old work.now }
-    requires flown { let P = plan_of (length workloads.now) sectors workloads.now outside.now edges.now counts.now visits.now constraints.now in Flown P timed.now counts.now visits.now visited.now flights.now firsts.now }
-    ensures remembered { let P = plan_of (length workloads.now) sectors workloads.now outside.now edges.now counts.now visits.now constraints.now in Remembered P.R P.S P.edges colouring.old clock known.new }
-    ensures turns { let P = plan_of (length workloads.now) sectors workloads.now outside.now edges.now counts.now visits.now constraints.now in Turns P colouring.old region sector result }
+    requires paid { let P = plan_prepared prepared in Paid P colouring.old prepared.limited.now prices.now }
+    requires remembered { let P = plan_prepared prepared in Remembered P.R P.S P.edges colouring.old clock known.old }
+    requires turning { let P = plan_prepared prepared in Turning P prepared.faces.start.now prepared.faces.near.now prepared.faces.areas.now colouring.old queue.old region.0 sector.0 }
+    requires kept { let P = plan_prepared prepared in Kept P colouring.old work.now }
+    requires flown { FlownBy prepared }
+    ensures remembered { let P = plan_prepared prepared.entry in Remembered P.R P.S P.edges colouring.old clock known.new }
+    ensures turns { let P = plan_prepared prepared.entry in Turns P colouring.old region.0 sector.0 result }
     ensures colouring_after { colouring.new ≡ colouring.old }
 {
-    let regions = workloads.len();
-    let v = region as usize;
-    let before = sides_in(work, prices, regions, sectors, colouring[v - 1], sector);
-    let workload = workloads[v - 1];
+    let regions = prepared.lists.workloads.len();
+    let sectors = prepared.lists.sectors;
+    let v = region.0 as usize;
+    let before = sides_in(work, prices, regions, sectors, colouring[v - 1], sector.0);
+    let workload = prepared.lists.workloads[v - 1];
     let look = look_at(
-        edges,
-        start,
-        near,
-        areas,
+        prepared.faces,
         &work[..regions],
         colouring,
         queue,
@@ -143,52 +117,34 @@ pub fn change_at(
         sectors,
         clock,
         v,
-        sector,
+        sector.0,
     );
-    let after = paid(limited, before.workloads, workload);
-    let dwell = swing_at(
-        counts, visits, timed, visited, flights, firsts, colouring, region, sector,
-    );
+    let after = paid(prepared.limited, before.workloads, workload);
+    let dwell = swing_at(prepared.visitors, colouring, region, sector);
     change_of(before, workload, after, look, dwell)
 }
 
 // What giving the region to another sector would change, by what the two sectors have, where the labels are not known.
 pub fn change_anew(
-    sectors: u64,
-    workloads: &[u64],
-    outside: &[u64],
-    edges: &[u64],
-    counts: &[u64],
-    visits: &[u64],
-    constraints: &[u64],
-    limited: &[u64],
-    start: &[u64],
-    near: &[u64],
-    areas: &[u64],
-    timed: &[u64],
-    visited: &[u64],
-    flights: &[u64],
-    firsts: &[u64],
+    prepared: Prepared,
     colouring: &mut [u64],
     queue: &mut [u64],
     before: Sides,
-    region: u64,
-    sector: u64,
+    region: Region,
+    sector: Sector,
 ) -> Change
-    requires limited_value { let P = plan_of (length workloads.now) sectors workloads.now outside.now edges.now counts.now visits.now constraints.now in constraints_of limited.now ≡ limitedOf P.constraints }
-    requires turning { let P = plan_of (length workloads.now) sectors workloads.now outside.now edges.now counts.now visits.now constraints.now in Turning P start.now near.now areas.now colouring.old queue.old region sector }
-    requires before_value { let P = plan_of (length workloads.now) sectors workloads.now outside.now edges.now counts.now visits.now constraints.now in before ≡ sides_of P colouring.old (at colouring.old region) sector }
-    requires flown { let P = plan_of (length workloads.now) sectors workloads.now outside.now edges.now counts.now visits.now constraints.now in Flown P timed.now counts.now visits.now visited.now flights.now firsts.now }
-    ensures turns { let P = plan_of (length workloads.now) sectors workloads.now outside.now edges.now counts.now visits.now constraints.now in Turns P colouring.old region sector result }
+    requires limited_value { let P = plan_prepared prepared in constraints_of prepared.limited.now ≡ limitedOf P.constraints }
+    requires turning { let P = plan_prepared prepared in Turning P prepared.faces.start.now prepared.faces.near.now prepared.faces.areas.now colouring.old queue.old region.0 sector.0 }
+    requires before_value { let P = plan_prepared prepared in before ≡ sides_of P colouring.old (at colouring.old region.0) sector.0 }
+    requires flown { FlownBy prepared }
+    ensures turns { let P = plan_prepared prepared.entry in Turns P colouring.old region.0 sector.0 result }
     ensures colouring_after { colouring.new ≡ colouring.old }
 {
-    let v = region as usize;
-    let workload = workloads[v - 1];
-    let look = look_anew(edges, start, near, areas, colouring, queue, v, sector);
-    let after = paid(limited, before.workloads, workload);
-    let dwell = swing_at(
-        counts, visits, timed, visited, flights, firsts, colouring, region, sector,
-    );
+    let v = region.0 as usize;
+    let workload = prepared.lists.workloads[v - 1];
+    let look = look_anew(prepared.faces, colouring, queue, v, sector.0);
+    let after = paid(prepared.limited, before.workloads, workload);
+    let dwell = swing_at(prepared.visitors, colouring, region, sector);
     change_of(before, workload, after, look, dwell)
 }
 
@@ -201,46 +157,28 @@ pub struct Turned {
 
 // Gives the region to another sector in the colouring, brings the labels up to date, and answers what that changes, by what the two sectors have before it.
 pub fn turn(
-    sectors: u64,
-    workloads: &[u64],
-    outside: &[u64],
-    edges: &[u64],
-    counts: &[u64],
-    visits: &[u64],
-    constraints: &[u64],
-    limited: &[u64],
-    start: &[u64],
-    near: &[u64],
-    areas: &[u64],
-    timed: &[u64],
-    visited: &[u64],
-    flights: &[u64],
-    firsts: &[u64],
+    prepared: Prepared,
     colouring: &mut [u64],
     labels: &mut [u64],
     queue: &mut [u64],
     before: Sides,
-    region: u64,
-    sector: u64,
+    region: Region,
+    sector: Sector,
 ) -> Turned
-    requires limited_value { let P = plan_of (length workloads.now) sectors workloads.now outside.now edges.now counts.now visits.now constraints.now in constraints_of limited.now ≡ limitedOf P.constraints }
-    requires turning { let P = plan_of (length workloads.now) sectors workloads.now outside.now edges.now counts.now visits.now constraints.now in Turning P start.now near.now areas.now colouring.old queue.old region sector }
-    requires before_value { let P = plan_of (length workloads.now) sectors workloads.now outside.now edges.now counts.now visits.now constraints.now in before ≡ sides_of P colouring.old (at colouring.old region) sector }
-    requires labels_value { let P = plan_of (length workloads.now) sectors workloads.now outside.now edges.now counts.now visits.now constraints.now in labels.old ≡ labelsOf P.edges colouring.old }
-    requires flown { let P = plan_of (length workloads.now) sectors workloads.now outside.now edges.now counts.now visits.now constraints.now in Flown P timed.now counts.now visits.now visited.now flights.now firsts.now }
-    ensures followed { let P = plan_of (length workloads.now) sectors workloads.now outside.now edges.now counts.now visits.now constraints.now in Followed P colouring.old (recolour colouring.old region sector) (at colouring.old region) sector colouring.new labels.new result }
+    requires limited_value { let P = plan_prepared prepared in constraints_of prepared.limited.now ≡ limitedOf P.constraints }
+    requires turning { let P = plan_prepared prepared in Turning P prepared.faces.start.now prepared.faces.near.now prepared.faces.areas.now colouring.old queue.old region.0 sector.0 }
+    requires before_value { let P = plan_prepared prepared in before ≡ sides_of P colouring.old (at colouring.old region.0) sector.0 }
+    requires labels_value { let P = plan_prepared prepared in labels.old ≡ labelsOf P.edges colouring.old }
+    requires flown { FlownBy prepared }
+    ensures followed { let P = plan_prepared prepared.entry in Followed P colouring.old (recolour colouring.old region.0 sector.0) (at colouring.old region.0) sector.0 colouring.new labels.new result }
     ensures single { Single result.change }
 {
-    let v = region as usize;
-    let workload = workloads[v - 1];
-    let met = meet(
-        edges, start, near, areas, labels, colouring, queue, v, sector,
-    );
-    let after = paid(limited, before.workloads, workload);
-    let dwell = swing_at(
-        counts, visits, timed, visited, flights, firsts, colouring, region, sector,
-    );
-    let labelled = relabel::recolour(edges, start, near, colouring, labels, queue, v, sector);
+    let v = region.0 as usize;
+    let workload = prepared.lists.workloads[v - 1];
+    let met = meet(prepared.faces, labels, colouring, queue, v, sector.0);
+    let after = paid(prepared.limited, before.workloads, workload);
+    let dwell = swing_at(prepared.visitors, colouring, region, sector);
+    let labelled = relabel::recolour(prepared.faces, colouring, labels, queue, v, sector.0);
     let look = Look {
         pieces: labelled.pieces,
         met,

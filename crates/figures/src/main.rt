@@ -15,16 +15,15 @@ fn read_all<R: Read>(reader: &mut R) -> Reviewed
 {
     let mut sheet = [0u8; MOST_BYTES];
     let mut review = Review::none();
-    let mut place = 1;
-    while place <= MOST_SHEETS {
+    for place in 1..MOST_SHEETS + 1 {
         let mut count = [0u8; COUNT_LENGTH];
         let counted = read_full(reader, &mut count);
         let blocks = match Announced::by(&count[..counted]) {
-            Announced::Nothing => return Reviewed { review, torn: 0 },
+            Announced::Nothing => return Reviewed { review, torn: None },
             Announced::Wrong => {
                 return Reviewed {
                     review,
-                    torn: place,
+                    torn: Some(place),
                 };
             }
             Announced::Blocks(blocks) => blocks,
@@ -34,13 +33,12 @@ fn read_all<R: Read>(reader: &mut R) -> Reviewed
         if read < size {
             return Reviewed {
                 review,
-                torn: place,
+                torn: Some(place),
             };
         }
         review = review.with_sheet(place, &sheet[..size]);
-        place += 1;
     }
-    Reviewed { review, torn: 0 }
+    Reviewed { review, torn: None }
 }
 
 fn main(rt: HostRuntime) {

@@ -6,7 +6,8 @@ ghost use Rattle.flights.specs.Flying.{Flying};
 ghost use Rattle.flights.specs.Gauged.{dwell_gauge, dwell_gauges, Gauging};
 
 use crate::pricing::price_all;
-use terms::limits::{CONSTRAINT_LENGTH, DWELL};
+use meaning::Constraint;
+use terms::limits::DWELL;
 
 // The gauge of constraint k, from 0: where it is of kind 5, how far the stretches of all flights are from its limit, else what it has.
 fn gauge_at(
@@ -21,11 +22,9 @@ fn gauge_at(
     requires gauging { Gauging constraints.now k }
     ensures { result ≡ dwell_gauge (flights_of counts.now visits.now) colouring.now (constraint_at constraints.now k) gauge }
 {
-    let at = CONSTRAINT_LENGTH * k;
-    if constraints[at] == DWELL {
-        let relation = constraints[at + 1];
-        let limit = constraints[at + 2];
-        let one = [DWELL, relation, limit, 1];
+    let constraint = Constraint::at(constraints, k);
+    if constraint.kind == DWELL {
+        let one = [DWELL, constraint.relation, constraint.limit, 1];
         return price_all(&one, counts, visits, colouring);
     }
     gauge
@@ -44,9 +43,7 @@ pub fn gauge_dwells(
     requires flying { Flying (length colouring.now) counts.now visits.now }
     ensures { gauges.new ≡ dwell_gauges (flights_of counts.now visits.now) colouring.now constraints.now gauges.old }
 {
-    let mut k = 0;
-    while k < gauges.len() {
-        gauges[k] = gauge_at(constraints, counts, visits, colouring, k, gauges[k]);
-        k += 1;
+    for (k, gauge) in gauges.iter_mut().enumerate() {
+        *gauge = gauge_at(constraints, counts, visits, colouring, k, *gauge);
     }
 }

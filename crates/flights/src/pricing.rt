@@ -1,5 +1,6 @@
 // The price, by the constraints of kind 5, of a flight's stretches, and of all flights.
-ghost use Rattle.std.specs.Prelude.{◌≡◌, ◌+◌, ◌*◌, ◌/◌, ◌<◌, ◌^◌, true, cond, eqb, length};
+ghost use Rattle.std.specs.Prelude.{unwrap_or, ◌≡◌, ◌+◌, ◌*◌, ◌/◌, ◌<◌, ◌^◌, true, cond, eqb, length};
+ghost use Rattle.std.specs.Option.{is_none};
 ghost use Rattle.lists.specs.Sums.{In};
 ghost use Rattle.meaning.specs.Plan.{constraints_of, visit_at, visits_of, flights_of, FlightLimits};
 ghost use Rattle.meaning.specs.Prices.{flight_price, flights_price};
@@ -21,10 +22,10 @@ struct Stretch {
     after: u64,
 }
 
-// The stretch of visit k, from 0, alone.
-fn stretch_of(flight: &[u64], colouring: &[u64], all: bool, region: u64, k: usize) -> Stretch
+// The stretch of visit k, from 0, alone. It counts where all do, or where the visit is to the only region that counts.
+fn stretch_of(flight: &[u64], colouring: &[u64], only: Option<u64>, k: usize) -> Stretch
     requires { Visiting (length colouring.now) flight.now k }
-    ensures { result ≡ alone colouring.now all region (visit_at flight.now k) }
+    ensures { result ≡ alone colouring.now (is_none only) (unwrap_or only 0) (visit_at flight.now k) }
 {
     let at = VISIT_LENGTH * k;
     let visited = flight[at];
@@ -34,7 +35,10 @@ fn stretch_of(flight: &[u64], colouring: &[u64], all: bool, region: u64, k: usiz
     Stretch {
         sector,
         seconds,
-        counted: all | (visited == region),
+        counted: match only {
+            None => true,
+            Some(region) => visited == region,
+        },
         after: 0,
     }
 }
@@ -46,9 +50,10 @@ fn price_from(timed: &[u64], first: Stretch) -> u64
     ensures { result ≡ price_from (constraints_of timed.now) first }
 {
     if first.counted {
-        return first.after + price(timed, first.seconds);
+        first.after + price(timed, first.seconds)
+    } else {
+        first.after
     }
-    first.after
 }
 
 // A visit in one stretch with the first.
@@ -56,11 +61,10 @@ fn joined(visit: Stretch, first: Stretch) -> Stretch
     requires { Fits visit × Fits first }
     ensures { result ≡ joined visit first }
 {
-    let seconds = visit.seconds + first.seconds;
     Stretch {
         sector: visit.sector,
-        seconds,
-        counted: visit.counted | first.counted,
+        seconds: visit.seconds + first.seconds,
+        counted: visit.counted || first.counted,
         after: first.after,
     }
 }
@@ -69,12 +73,7 @@ fn joined(visit: Stretch, first: Stretch) -> Stretch
 fn broken(visit: Stretch, after: u64) -> Stretch
     ensures { result ≡ broken visit after }
 {
-    Stretch {
-        sector: visit.sector,
-        seconds: visit.seconds,
-        counted: visit.counted,
-        after,
-    }
+    Stretch { after, ..visit }
 }
 
 // The first stretch with a visit in front: one with it where both are in one sector, else a stretch of its own.
@@ -84,10 +83,10 @@ fn add_visit(timed: &[u64], visit: Stretch, first: Stretch) -> Stretch
     ensures { result ≡ with_visit (constraints_of timed.now) visit first }
 {
     if visit.sector == first.sector {
-        return joined(visit, first);
+        joined(visit, first)
+    } else {
+        broken(visit, price_from(timed, first))
     }
-    let after = price_from(timed, first);
-    broken(visit, after)
 }
 
 // The first stretch of the visits from k, from 0, on, by that of the visits after it.
@@ -95,34 +94,32 @@ fn with_visit(
     timed: &[u64],
     flight: &[u64],
     colouring: &[u64],
-    all: bool,
-    region: u64,
+    only: Option<u64>,
     k: usize,
     first: Stretch,
 ) -> Stretch
-    requires { Taken timed.now flight.now colouring.now all region (k + 1) first }
-    ensures { Taken timed.now flight.now colouring.now all region k result }
+    requires { Taken timed.now flight.now colouring.now (is_none only) (unwrap_or only 0) (k + 1) first }
+    ensures { Taken timed.now flight.now colouring.now (is_none only) (unwrap_or only 0) k result }
 {
-    let visit = stretch_of(flight, colouring, all, region, k);
+    let visit = stretch_of(flight, colouring, only, k);
     add_visit(timed, visit, first)
 }
 
-// The price of a flight: of all its stretches, or only of those that visit the region.
-pub fn flight_price(timed: &[u64], flight: &[u64], colouring: &[u64], all: bool, region: u64) -> u64
+// The price of a flight: of all its stretches, or only of those that visit a region.
+pub fn flight_price(timed: &[u64], flight: &[u64], colouring: &[u64], only: Option<u64>) -> u64
     requires paying { Paying timed.now }
     requires flight_limits { FlightLimits (length colouring.now) (visits_of flight.now) }
-    ensures { result ≡ flight_price (constraints_of timed.now) colouring.now all region (visits_of flight.now) }
+    ensures { result ≡ flight_price (constraints_of timed.now) colouring.now (is_none only) (unwrap_or only 0) (visits_of flight.now) }
 {
-    let mut k = flight.len() / VISIT_LENGTH - 1;
-    let mut first = stretch_of(flight, colouring, all, region, k);
-    while 0 < k {
-        k -= 1;
-        first = with_visit(timed, flight, colouring, all, region, k, first);
+    let last = flight.len() / VISIT_LENGTH - 1;
+    let mut first = stretch_of(flight, colouring, only, last);
+    for k in (0..last).rev() {
+        first = with_visit(timed, flight, colouring, only, k, first);
     }
     price_from(timed, first)
 }
 
-// A stretch as it is, and with a region given to another sector.
+// A stretch as it is, and with a region given to another sector. Not one generic pair with `Prices`, the only one that callers know.
 #[derive(Clone, Copy)]
 struct Stretches {
     before: Stretch,
@@ -133,10 +130,7 @@ struct Stretches {
 fn sector_given(visited: u64, own: u64, region: u64, sector: u64) -> u64
     ensures { result ≡ cond (eqb visited region) sector own }
 {
-    if visited == region {
-        return sector;
-    }
-    own
+    if visited == region { sector } else { own }
 }
 
 // The stretch of visit k, from 0, alone, as it is and with the region given to the sector.
@@ -145,13 +139,11 @@ fn stretches_of(flight: &[u64], colouring: &[u64], region: u64, sector: u64, k: 
     requires in_range { In (length colouring.now) region }
     ensures { result ≡ alone_both colouring.now region sector (visit_at flight.now k) }
 {
-    let before = stretch_of(flight, colouring, true, region, k);
+    let before = stretch_of(flight, colouring, None, k);
     let given = sector_given(flight[VISIT_LENGTH * k], before.sector, region, sector);
     let after = Stretch {
         sector: given,
-        seconds: before.seconds,
-        counted: true,
-        after: 0,
+        ..before
     };
     Stretches { before, after }
 }
@@ -163,24 +155,27 @@ pub struct Prices {
     pub after: u64,
 }
 
+impl Prices {
+    pub const NONE: Prices = Prices {
+        before: 0,
+        after: 0,
+    };
+}
+
 // The seconds of a visit, with those of the stretch that it comes into, if any.
 fn lengthened(comes_in: bool, seconds: u64, stretch: u64) -> u64
     requires { seconds + stretch < 2 ^ 64 }
     ensures { result ≡ seconds + cond comes_in stretch 0 }
 {
-    if comes_in {
-        return seconds + stretch;
-    }
-    seconds
+    if comes_in { seconds + stretch } else { seconds }
 }
 
 // Whether the stretch is the same before and after, but for the prices.
 fn alike(stretches: Stretches) -> bool
     ensures { result ≡ alike stretches }
 {
-    let before = stretches.before;
-    let after = stretches.after;
-    (before.sector == after.sector) & (before.seconds == after.seconds)
+    let Stretches { before, after } = stretches;
+    before.sector == after.sector && before.seconds == after.seconds
 }
 
 // Both first stretches with the visit in front. Where neither it nor they differ, a stretch that ends costs the same before and after,
@@ -190,40 +185,31 @@ fn add_both(timed: &[u64], visit: Stretches, firsts: Stretches) -> Stretches
     requires ready { Ready visit × Ready firsts }
     ensures { result ≡ walked (constraints_of timed.now) visit firsts }
 {
-    let visit_before = visit.before;
-    let visit_after = visit.after;
-    let before = firsts.before;
-    let after = firsts.after;
-    if alike(visit) & alike(firsts) {
-        let comes_in = visit_before.sector == before.sector;
-        let seconds = lengthened(comes_in, visit_before.seconds, before.seconds);
-        let sector = visit_before.sector;
-        let first_before = Stretch {
+    if alike(visit) && alike(firsts) {
+        let sector = visit.before.sector;
+        let comes_in = sector == firsts.before.sector;
+        let first = Stretch {
             sector,
-            seconds,
+            seconds: lengthened(comes_in, visit.before.seconds, firsts.before.seconds),
             counted: true,
-            after: before.after,
-        };
-        let first_after = Stretch {
-            sector,
-            seconds,
-            counted: true,
-            after: after.after,
+            after: firsts.before.after,
         };
         return Stretches {
-            before: first_before,
-            after: first_after,
+            before: first,
+            after: Stretch {
+                after: firsts.after.after,
+                ..first
+            },
         };
     }
-    let first_before = add_visit(timed, visit_before, before);
-    let first_after = add_visit(timed, visit_after, after);
     Stretches {
-        before: first_before,
-        after: first_after,
+        before: add_visit(timed, visit.before, firsts.before),
+        after: add_visit(timed, visit.after, firsts.after),
     }
 }
 
 // Two prices that differ as the flight's do, as it is and with the region given to the sector.
+// Not `flight_price` twice: what both have in common is not priced, so that only the difference is promised.
 pub fn flight_prices(
     timed: &[u64],
     flight: &[u64],
@@ -236,16 +222,16 @@ pub fn flight_prices(
     requires in_range { In (length colouring.now) region }
     ensures { Differ (flight_price (constraints_of timed.now) colouring.now true region (visits_of flight.now)) (flight_price (constraints_of timed.now) (recolour colouring.now region sector) true region (visits_of flight.now)) result }
 {
-    let mut k = flight.len() / VISIT_LENGTH - 1;
-    let mut firsts = stretches_of(flight, colouring, region, sector, k);
-    while 0 < k {
-        k -= 1;
+    let last = flight.len() / VISIT_LENGTH - 1;
+    let mut firsts = stretches_of(flight, colouring, region, sector, last);
+    for k in (0..last).rev() {
         let visit = stretches_of(flight, colouring, region, sector, k);
         firsts = add_both(timed, visit, firsts);
     }
-    let before = price_from(timed, firsts.before);
-    let after = price_from(timed, firsts.after);
-    Prices { before, after }
+    Prices {
+        before: price_from(timed, firsts.before),
+        after: price_from(timed, firsts.after),
+    }
 }
 
 // The price of all flights.
@@ -256,12 +242,10 @@ pub fn price_all(timed: &[u64], counts: &[u64], visits: &[u64], colouring: &[u64
 {
     let mut sum = 0;
     let mut at = 0;
-    let mut i = 0;
-    while i < counts.len() {
-        let end = at + VISIT_LENGTH * counts[i] as usize;
-        sum += flight_price(timed, &visits[at..end], colouring, true, 0);
+    for count in counts {
+        let end = at + VISIT_LENGTH * *count as usize;
+        sum += flight_price(timed, &visits[at..end], colouring, None);
         at = end;
-        i += 1;
     }
     sum
 }

@@ -1,6 +1,6 @@
 -- Constraints turned in place, one after the other.
 -- Assumes nothing.
-use Rattle.std.specs.Prelude.{ℕ, suc, ◌+◌, ◌-◌, ◌≤◌, ◌<◌, ◌≡◌, refl, List, [], ◌∷◌, ◌++◌, length, take, drop, get_or, set}
+use Rattle.std.specs.Prelude.{ℕ, suc, ◌+◌, ◌≤◌, ◌<◌, ◌≡◌, refl, List, [], ◌∷◌, ◌++◌, length, take, drop, get_or, set}
 use Rattle.std.proofs.Common.{arith, sym, ap, ◌∙◌, append_assoc, length-append, length-set, length-drop, take-append-drop, drop-cons, take_at, drop_at, length-take-le}
 use Rattle.std.proofs.lemmas.List.{set_at}
 use Rattle.meaning.specs.Plan.{constraint_length}

@@ -1,8 +1,6 @@
 -- What follows where nothing of a sheet is refused, and what is enough for that.
 -- Assumes nothing.
 use Rattle.std.specs.Prelude.{ℕ, ◌*◌, ◌≡◌, List, length}
-use Rattle.terms.specs.Plan.{within}
-use Rattle.refusals.specs.Table.{refused}
 use Rattle.blocks.specs.Block.{block_length}
 use Rattle.blocks.specs.Sheet.{fault_from}
 use Rattle.form.specs.declared.Form.{Form}

@@ -4,6 +4,6 @@ pub mod FormLaws
 pub mod Firsts
 pub mod Accepted
 pub mod Over
-pub mod Listed
+pub mod Kinds
 pub mod Formed
 pub mod Recoloured

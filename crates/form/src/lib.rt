@@ -5,8 +5,8 @@ ghost use Rattle.std.specs.Prelude.{◌≡◌};
 ghost use Rattle.packing.specs.Numbers.{total};
 ghost use Rattle.form.specs.Form.{letters, most_blocks, head_length, outside_count, flight_count, kind_count, form_in, head_widths};
 
-use blocks::faults::same_bytes;
 use blocks::{BLOCK_LENGTH, LETTERS_LENGTH};
+use packing::Shape;
 use terms::limits::{BOUNDED, DWELL, MOST_FLIGHTS};
 
 pub mod sections; // sections.rt: the blocks of each kind
@@ -25,44 +25,6 @@ pub const MOST_BYTES: usize = SECOND_BLOCKS as usize * BLOCK_LENGTH;
 
 // How many numbers a head has at most.
 pub const HEAD_LENGTH: usize = 6;
-
-// The widths of a record's numbers, and its bytes: each number of the head;
-pub const HEAD_WIDTHS: [u8; HEAD_LENGTH] = [2, 2, 2, 2, 2, 2];
-
-// a workload;
-pub const WORKLOAD_WIDTHS: [u8; 1] = [4];
-
-pub const WORKLOAD_BYTES: usize = 4;
-
-// an outside area;
-pub const OUTSIDE_WIDTHS: [u8; 1] = [4];
-
-pub const OUTSIDE_BYTES: usize = 4;
-
-// a, b, area;
-pub const EDGE_WIDTHS: [u8; 3] = [2, 2, 4];
-
-pub const EDGE_BYTES: usize = 8;
-
-// kind, relation, weight, limit;
-pub const CONSTRAINT_WIDTHS: [u8; 4] = [1, 1, 2, 8];
-
-pub const CONSTRAINT_BYTES: usize = 12;
-
-// the sector of a region;
-pub const SECTOR_WIDTHS: [u8; 1] = [1];
-
-pub const SECTOR_BYTES: usize = 1;
-
-// the visit count of a flight;
-pub const COUNT_WIDTHS: [u8; 1] = [1];
-
-pub const COUNT_BYTES: usize = 1;
-
-// region, dwell.
-pub const VISIT_WIDTHS: [u8; 2] = [2, 4];
-
-pub const VISIT_BYTES: usize = 6;
 
 // The numbers of a sheet's head: how many regions, sectors, edges, constraints, flights and visits there are.
 #[derive(Clone, Copy)]
@@ -87,14 +49,14 @@ impl Form {
     pub fn of(sheet: &[u8]) -> Form
         ensures { result ≡ form_in sheet.now }
     {
-        if sheet.len() < LETTERS_LENGTH {
-            return Form::First;
+        if sheet.starts_with(&SECOND_LETTERS) {
+            Form::Second
+        } else {
+            Form::First
         }
-        if same_bytes(&sheet[..LETTERS_LENGTH], &SECOND_LETTERS) {
-            return Form::Second;
-        }
-        Form::First
     }
+
+    // What sets the two forms apart, a function for each fact as in the spec: each `match` is a row of one table with a column for either form.
 
     // The letters that each block starts with.
     pub fn letters(self) -> [u8; LETTERS_LENGTH]
@@ -133,6 +95,21 @@ impl Form {
         match self {
             Form::First => 8,
             Form::Second => 12,
+        }
+    }
+
+    // How the head's numbers stand in bytes.
+    pub fn head_shape(self) -> Shape<'static>
+        ensures widths { result.widths.now ≡ head_widths self }
+        ensures stride { result.stride ≡ total (head_widths self) }
+    {
+        let widths: &[u8] = match self {
+            Form::First => &[2, 2, 2, 2],
+            Form::Second => &[2, 2, 2, 2, 2, 2],
+        };
+        Shape {
+            widths,
+            stride: self.head_bytes(),
         }
     }
 

@@ -1,165 +1,148 @@
 // The blocks of each kind.
-ghost use Rattle.std.specs.Prelude.{◌≡◌, ◌≤◌, length, get_or};
-ghost use Rattle.meaning.specs.Plan.{most_regions, most_edges, most_constraints, most_flights};
-ghost use Rattle.blocks.specs.Section.{no_due};
+ghost use Rattle.std.specs.Prelude.{◌≡◌, ◌≤◌, length, map};
+ghost use Rattle.std.specs.List.{slice_get};
+ghost use Rattle.packing.specs.Numbers.{total};
 ghost use Rattle.blocks.specs.Layout.{section_of};
-ghost use Rattle.form.specs.Form.{head_layout, workload_layout, outside_layout, edge_layout, constraint_layout, colouring_layout, count_layout, visit_layout, layouts, dues};
-ghost use Rattle.form.specs.FormLaws.{HeadLimits, most_visits_in_all};
+ghost use Rattle.form.specs.Form.{head_layout, layouts, dues};
+ghost use Rattle.form.specs.FormLaws.{HeadLimits};
 ghost use Rattle.form.specs.Firsts.{colouring_first, count_first};
-ghost use Rattle.form.specs.Listed.{sizes_in, bytes_in};
+ghost use Rattle.form.specs.Kinds.{number_of, widths_of, full_of, count_of, most_of, layout_of};
 
-use crate::{
-    CONSTRAINT_BYTES, COUNT_BYTES, EDGE_BYTES, Form, Head, OUTSIDE_BYTES, SECTOR_BYTES,
-    VISIT_BYTES, WORKLOAD_BYTES,
-};
+use crate::{Form, Head};
 use blocks::dues::{block_count, due_at, due_count};
 use blocks::{Due, Section};
+use packing::Shape;
 
-// The kinds in order.
-pub const KINDS: [u8; 8] = [1, 2, 6, 3, 4, 5, 7, 8];
+const HEAD_KIND: u8 = 1;
 
-// The bytes of so many records as a full block holds.
-const WORKLOAD_SIZE: usize = 125 * WORKLOAD_BYTES;
+// How many sectors a full block holds, and their bytes.
+pub const SECTOR_SIZE: usize = 500;
 
-const OUTSIDE_SIZE: usize = 125 * OUTSIDE_BYTES;
+// What the blocks after the head hold, kind by kind in their order.
+#[derive(Clone, Copy)]
+pub enum Kind {
+    Workloads,
+    Outside,
+    Edges,
+    Constraints,
+    Colouring,
+    Counts,
+    Visits,
+}
 
-const EDGE_SIZE: usize = 62 * EDGE_BYTES;
+impl Kind {
+    // The number that a block has for its kind.
+    fn number(self) -> u8
+        ensures { result ≡ number_of self }
+    {
+        match self {
+            Kind::Workloads => 2,
+            Kind::Outside => 6,
+            Kind::Edges => 3,
+            Kind::Constraints => 4,
+            Kind::Colouring => 5,
+            Kind::Counts => 7,
+            Kind::Visits => 8,
+        }
+    }
 
-const CONSTRAINT_SIZE: usize = 41 * CONSTRAINT_BYTES;
+    // How a record's numbers stand in bytes.
+    pub fn shape(self) -> Shape<'static>
+        ensures widths { result.widths.now ≡ widths_of self }
+        ensures stride { result.stride ≡ total (widths_of self) }
+    {
+        match self {
+            Kind::Workloads | Kind::Outside => Shape {
+                widths: &[4],
+                stride: 4,
+            },
+            Kind::Edges => Shape {
+                widths: &[2, 2, 4],
+                stride: 8,
+            },
+            Kind::Constraints => Shape {
+                widths: &[1, 1, 2, 8],
+                stride: 12,
+            },
+            Kind::Colouring | Kind::Counts => Shape {
+                widths: &[1],
+                stride: 1,
+            },
+            Kind::Visits => Shape {
+                widths: &[2, 4],
+                stride: 6,
+            },
+        }
+    }
 
-pub const SECTOR_SIZE: usize = 500 * SECTOR_BYTES;
+    // How many records a full block holds.
+    fn full(self) -> usize
+        ensures { result ≡ full_of self }
+    {
+        match self {
+            Kind::Workloads | Kind::Outside => 125,
+            Kind::Edges => 62,
+            Kind::Constraints => 41,
+            Kind::Colouring => SECTOR_SIZE,
+            Kind::Counts => 500,
+            Kind::Visits => 83,
+        }
+    }
 
-const COUNT_SIZE: usize = 500 * COUNT_BYTES;
+    // How many records a sheet with this head has.
+    fn count(self, form: Form, head: Head) -> u64
+        ensures { result ≡ count_of self form head }
+    {
+        match self {
+            Kind::Workloads | Kind::Colouring => head.regions,
+            Kind::Outside => form.outside_count(head.regions),
+            Kind::Edges => head.edges,
+            Kind::Constraints => head.constraints,
+            Kind::Counts => head.flights,
+            Kind::Visits => head.visits,
+        }
+    }
 
-const VISIT_SIZE: usize = 83 * VISIT_BYTES;
+    // Its blocks.
+    pub fn section(self, form: Form, head: Head) -> Section
+        requires { count_of self form head ≤ most_of self }
+        ensures { result ≡ section_of (layout_of self form head) }
+    {
+        let stride = self.shape().stride;
+        Section {
+            kind: self.number(),
+            size: self.full() * stride,
+            bytes: self.count(form, head) as usize * stride,
+        }
+    }
+}
 
-// The head.
+// The head. It is none of the kinds: its blocks are asked for before its numbers are known.
 pub fn head_section(form: Form) -> Section
     ensures { result ≡ section_of (head_layout form) }
 {
     let bytes = form.head_bytes();
     Section {
-        kind: KINDS[0],
+        kind: HEAD_KIND,
         size: bytes,
         bytes,
     }
 }
 
-// The workloads.
-pub fn workload_section(head: Head) -> Section
-    requires { head.regions ≤ most_regions }
-    ensures { result ≡ section_of (workload_layout head) }
-{
-    Section {
-        kind: KINDS[1],
-        size: WORKLOAD_SIZE,
-        bytes: head.regions as usize * WORKLOAD_BYTES,
-    }
-}
-
-// The outside areas.
-pub fn outside_section(form: Form, head: Head) -> Section
-    requires { head.regions ≤ most_regions }
-    ensures { result ≡ section_of (outside_layout form head) }
-{
-    let count = form.outside_count(head.regions);
-    Section {
-        kind: KINDS[2],
-        size: OUTSIDE_SIZE,
-        bytes: count as usize * OUTSIDE_BYTES,
-    }
-}
-
-// The edges.
-pub fn edge_section(head: Head) -> Section
-    requires { head.edges ≤ most_edges }
-    ensures { result ≡ section_of (edge_layout head) }
-{
-    Section {
-        kind: KINDS[3],
-        size: EDGE_SIZE,
-        bytes: head.edges as usize * EDGE_BYTES,
-    }
-}
-
-// The constraints.
-pub fn constraint_section(head: Head) -> Section
-    requires { head.constraints ≤ most_constraints }
-    ensures { result ≡ section_of (constraint_layout head) }
-{
-    Section {
-        kind: KINDS[4],
-        size: CONSTRAINT_SIZE,
-        bytes: head.constraints as usize * CONSTRAINT_BYTES,
-    }
-}
-
-// The colouring.
-pub fn colouring_section(head: Head) -> Section
-    requires { head.regions ≤ most_regions }
-    ensures { result ≡ section_of (colouring_layout head) }
-{
-    Section {
-        kind: KINDS[5],
-        size: SECTOR_SIZE,
-        bytes: head.regions as usize * SECTOR_BYTES,
-    }
-}
-
-// The visit counts.
-pub fn count_section(head: Head) -> Section
-    requires { head.flights ≤ most_flights }
-    ensures { result ≡ section_of (count_layout head) }
-{
-    Section {
-        kind: KINDS[6],
-        size: COUNT_SIZE,
-        bytes: head.flights as usize * COUNT_BYTES,
-    }
-}
-
-// The visits.
-pub fn visit_section(head: Head) -> Section
-    requires { head.visits ≤ most_visits_in_all }
-    ensures { result ≡ section_of (visit_layout head) }
-{
-    Section {
-        kind: KINDS[7],
-        size: VISIT_SIZE,
-        bytes: head.visits as usize * VISIT_BYTES,
-    }
-}
-
-// The bytes that a full block of each kind holds.
-pub fn sizes_of(form: Form, head: Head) -> [usize; 8]
-    ensures { result ≡ sizes_in (layouts form head) }
-{
-    [
-        form.head_bytes(),
-        WORKLOAD_SIZE,
-        OUTSIDE_SIZE,
-        EDGE_SIZE,
-        CONSTRAINT_SIZE,
-        SECTOR_SIZE,
-        COUNT_SIZE,
-        VISIT_SIZE,
-    ]
-}
-
-// All bytes of each kind.
-pub fn bytes_of(form: Form, head: Head) -> [usize; 8]
+// The blocks of all kinds in order.
+pub fn sections(form: Form, head: Head) -> [Section; 8]
     requires { HeadLimits form head }
-    ensures { result ≡ bytes_in (layouts form head) }
+    ensures { result ≡ map section_of (layouts form head) }
 {
     [
-        form.head_bytes(),
-        workload_section(head).bytes,
-        outside_section(form, head).bytes,
-        edge_section(head).bytes,
-        constraint_section(head).bytes,
-        colouring_section(head).bytes,
-        count_section(head).bytes,
-        visit_section(head).bytes,
+        head_section(form),
+        Kind::Workloads.section(form, head),
+        Kind::Outside.section(form, head),
+        Kind::Edges.section(form, head),
+        Kind::Constraints.section(form, head),
+        Kind::Colouring.section(form, head),
+        Kind::Counts.section(form, head),
+        Kind::Visits.section(form, head),
     ]
 }
 
@@ -168,9 +151,7 @@ pub fn all_blocks(form: Form, head: Head) -> usize
     requires { HeadLimits form head }
     ensures { result ≡ length (dues form head) }
 {
-    let sizes = sizes_of(form, head);
-    let bytes = bytes_of(form, head);
-    due_count(&KINDS, &sizes, &bytes)
+    due_count(&sections(form, head))
 }
 
 // The first block of the visit counts, where they have any: all that are due but theirs and those of the visits come before it.
@@ -178,7 +159,9 @@ pub fn count_first(form: Form, head: Head) -> usize
     requires { HeadLimits form head }
     ensures { result ≡ count_first form head }
 {
-    all_blocks(form, head) - block_count(count_section(head)) - block_count(visit_section(head))
+    all_blocks(form, head)
+        - block_count(Kind::Counts.section(form, head))
+        - block_count(Kind::Visits.section(form, head))
 }
 
 // The first block of the colouring.
@@ -186,15 +169,13 @@ pub fn colouring_first(form: Form, head: Head) -> usize
     requires { HeadLimits form head }
     ensures { result ≡ colouring_first form head }
 {
-    count_first(form, head) - block_count(colouring_section(head))
+    count_first(form, head) - block_count(Kind::Colouring.section(form, head))
 }
 
-// What is due of a block, from 0; past the last, kind 0 and no byte.
-pub fn due_of(form: Form, head: Head, number: usize) -> Due
+// What is due of a block, from 0; nothing is past the last.
+pub fn due_of(form: Form, head: Head, number: usize) -> Option<Due>
     requires { HeadLimits form head }
-    ensures { result ≡ get_or (dues form head) number no_due }
+    ensures { result ≡ slice_get (dues form head) number }
 {
-    let sizes = sizes_of(form, head);
-    let bytes = bytes_of(form, head);
-    due_at(&KINDS, &sizes, &bytes, number)
+    due_at(&sections(form, head), number)
 }

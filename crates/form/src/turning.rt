@@ -10,12 +10,10 @@ use terms::limits::CONSTRAINT_LENGTH;
 pub fn turn(constraints: &mut [u64])
     ensures { constraints.new ≡ turned constraints.old }
 {
-    let mut i = 0;
-    while i + CONSTRAINT_LENGTH <= constraints.len() {
-        let third = constraints[i + 2];
-        constraints[i + 2] = constraints[i + 3];
-        constraints[i + 3] = third;
-        i += CONSTRAINT_LENGTH;
+    // By index: of what is written through `chunks_exact_mut` or `as_chunks_mut` the standard library says only how long the list stays.
+    for k in 0..constraints.len() / CONSTRAINT_LENGTH {
+        let at = CONSTRAINT_LENGTH * k;
+        constraints.swap(at + 2, at + 3);
     }
 }
 

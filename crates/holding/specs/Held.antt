@@ -3,6 +3,7 @@
 use Rattle.std.specs.Prelude.{ℕ, ◌+◌, ◌*◌, ◌≡◌, List}
 use Rattle.packing.specs.Part.{part}
 use Rattle.meaning.specs.Plan.{edge_length, visit_length, constraint_length, most_regions, most_edges, most_constraints, most_flights}
+use Rattle.meaning.specs.declared.Lists.{Lists}
 use Rattle.refusals.specs.declared.Refusal.{Refusal}
 use Rattle.form.specs.declared.Form.{Form}
 use Rattle.form.specs.declared.Head.{Head}
@@ -51,6 +52,16 @@ contents_held h held =
       constraints = part (constraints_at h) (colouring_at h) held;
       colouring = part (colouring_at h) (counts_at h) held;
     }
+
+-- these lists are those of contents, but for the colouring
+pub record Lends (k : Contents) (l : Lists) : Type 0 where
+  pub sectors : l.sectors ≡ k.S
+  pub workloads : l.workloads.now ≡ k.workloads
+  pub outside : l.outside.now ≡ k.outside
+  pub edges : l.edges.now ≡ k.edges
+  pub counts : l.counts.now ≡ k.counts
+  pub visits : l.visits.now ≡ k.visits
+  pub constraints : l.constraints.now ≡ k.constraints
 
 -- what holding a sheet of a form leaves: why it is refused, and where it is not, its contents
 pub record Holds (f : Form) (sheet : List ℕ) (r : Refusal) (held : List ℕ) : Type 0 where

@@ -1,9 +1,10 @@
-// Where each list stands among all numbers of a sheet.
+// Where each list stands among all numbers of a sheet: each start is another sum, and a function of its own, as in the spec.
 ghost use Rattle.std.specs.Prelude.{◌≡◌, ◌≤◌, length};
 ghost use Rattle.form.specs.FormLaws.{Bounded};
-ghost use Rattle.holding.specs.Held.{outside_at, edges_at, constraints_at, colouring_at, counts_at, visits_at, held_end, most_held, contents_held};
+ghost use Rattle.holding.specs.Held.{outside_at, edges_at, constraints_at, colouring_at, counts_at, visits_at, held_end, most_held, contents_held, Lends};
 
 use form::Head;
+use meaning::Lists;
 use terms::limits::{CONSTRAINT_LENGTH, EDGE_LENGTH, VISIT_LENGTH};
 
 // Where the outside areas start.
@@ -62,44 +63,20 @@ fn held_end(head: Head) -> usize
     visits_at(head) + VISIT_LENGTH * head.visits as usize
 }
 
-// The workloads that are held.
-pub fn workloads_in(held: &[u64], head: Head) -> &[u64]
+// The lists that are held, but for the colouring.
+pub fn lists_in(held: &[u64], head: Head) -> Lists<'_>
     requires { Bounded head × (most_held ≤ length held.now) }
-    ensures { result.now ≡ (contents_held head held.now).workloads }
+    ensures { Lends (contents_held head held.now) result }
 {
-    let from = 0;
-    let to = outside_at(head);
-    &held[from..to]
-}
-
-// The outside areas that are held.
-pub fn outside_in(held: &[u64], head: Head) -> &[u64]
-    requires { Bounded head × (most_held ≤ length held.now) }
-    ensures { result.now ≡ (contents_held head held.now).outside }
-{
-    let from = outside_at(head);
-    let to = edges_at(head);
-    &held[from..to]
-}
-
-// The edge numbers that are held.
-pub fn edges_in(held: &[u64], head: Head) -> &[u64]
-    requires { Bounded head × (most_held ≤ length held.now) }
-    ensures { result.now ≡ (contents_held head held.now).edges }
-{
-    let from = edges_at(head);
-    let to = constraints_at(head);
-    &held[from..to]
-}
-
-// The constraint numbers that are held.
-pub fn constraints_in(held: &[u64], head: Head) -> &[u64]
-    requires { Bounded head × (most_held ≤ length held.now) }
-    ensures { result.now ≡ (contents_held head held.now).constraints }
-{
-    let from = constraints_at(head);
-    let to = colouring_at(head);
-    &held[from..to]
+    Lists {
+        sectors: head.sectors,
+        workloads: &held[..outside_at(head)],
+        outside: &held[outside_at(head)..edges_at(head)],
+        edges: &held[edges_at(head)..constraints_at(head)],
+        counts: &held[counts_at(head)..visits_at(head)],
+        visits: &held[visits_at(head)..held_end(head)],
+        constraints: &held[constraints_at(head)..colouring_at(head)],
+    }
 }
 
 // The colouring that is held.
@@ -107,27 +84,5 @@ pub fn colouring_in(held: &[u64], head: Head) -> &[u64]
     requires { Bounded head × (most_held ≤ length held.now) }
     ensures { result.now ≡ (contents_held head held.now).colouring }
 {
-    let from = colouring_at(head);
-    let to = counts_at(head);
-    &held[from..to]
-}
-
-// The visit counts that are held.
-pub fn counts_in(held: &[u64], head: Head) -> &[u64]
-    requires { Bounded head × (most_held ≤ length held.now) }
-    ensures { result.now ≡ (contents_held head held.now).counts }
-{
-    let from = counts_at(head);
-    let to = visits_at(head);
-    &held[from..to]
-}
-
-// The visit numbers that are held.
-pub fn visits_in(held: &[u64], head: Head) -> &[u64]
-    requires { Bounded head × (most_held ≤ length held.now) }
-    ensures { result.now ≡ (contents_held head held.now).visits }
-{
-    let from = visits_at(head);
-    let to = held_end(head);
-    &held[from..to]
+    &held[colouring_at(head)..counts_at(head)]
 }

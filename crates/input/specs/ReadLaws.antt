@@ -2,6 +2,7 @@
 -- Assumes nothing.
 use Rattle.std.specs.Prelude.{ℕ, min, ◌≤◌, ◌<◌, ◌≡◌, refl, Bool, true, false, not, List, leb, length, take, drop}
 use Rattle.std.proofs.Common.{arith, sym, ap, ◌∙◌, leb-true, leb-false, length-take, length-take-le, take_all, take-take, take_at}
+use Rattle.std.proofs.Math.Decide.{dec_lt}
 use Rattle.std.proofs.Math.Seq.{length_front}
 use Rattle.refusals.specs.Table.{refusal}
 use Rattle.refusals.specs.Passed.{passed_records}
@@ -81,6 +82,14 @@ module _ {input buffer : List ℕ} {read : ℕ} (room : most_bytes < length buff
 
 -- ---- the promise
 
+-- no more of a buffer is taken than it has
+take-least : (n : ℕ) (xs : List ℕ) → take (min n (length xs)) xs ≡ take n xs
+take-least n xs = go (dec_lt (length xs) n)
+  where
+    go : Dec (length xs < n) → take (min n (length xs)) xs ≡ take n xs
+    go (yes l) = let e : min n (length xs) ≡ length xs = omega (arith, l) in rw (e, take_all (length xs) xs (omega arith), take_all n xs (omega (arith, l)))
+    go (no m) = let e : min n (length xs) ≡ n = omega (arith, m) in rw e
+
 module _ {buffer : List ℕ} {read : ℕ} {lent : List ℕ} {o : Printed} (room : most_bytes < length buffer) where
   -- the text of what was read is that of every input
   pub promise_read : TextPromise (take read buffer) lent o → Promise buffer read lent o
@@ -90,6 +99,6 @@ module _ {buffer : List ℕ} {read : ℕ} {lent : List ℕ} {o : Printed} (room 
         of_input = λ input r. let e = read-printed room r lent in record { bytes = rw (← e) p.bytes; text = rw (← e) p.text };
       }
 
-  -- and where more is said to be read than there is, that of the whole buffer
-  pub promise_whole : length buffer < read → TextPromise buffer lent o → Promise buffer read lent o
-  promise_whole l p = promise_read (rw (take_all read buffer (omega (arith, l))) p)
+  -- so is that of as much of it as the buffer has
+  pub promise_least : {n : ℕ} → n ≡ min read (length buffer) → TextPromise (take n buffer) lent o → Promise buffer read lent o
+  promise_least e p = promise_read (rw (e, take-least read buffer) at p)

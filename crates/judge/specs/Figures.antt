@@ -60,9 +60,9 @@ gauges_by loads constraints = map (gauge_by loads) (constraints_of constraints)
 abbrev pub constraint_count : List ℕ → ℕ
 constraint_count constraints = length constraints / constraint_length
 
--- a constraint of some kind, relation and limit, of weight 1: neither its gauge nor its violation asks what it weighs
-abbrev pub unweighted : ℕ → ℕ → ℕ → Constraint
-unweighted kind relation limit = record { kind = kind; relation = relation; limit = limit; weight = 1 }
+-- a constraint with weight 1: neither its gauge nor its violation asks what it weighs
+abbrev pub unweighted : Constraint → Constraint
+unweighted k = record { kind = k.kind; relation = k.relation; limit = k.limit; weight = 1 }
 
 -- the violation of a constraint by the figures and its gauge
 unfoldable pub violation_by : Figures → ℕ → Constraint → ℕ

@@ -117,7 +117,7 @@ module _ (P : Plan) (l : Limits P) where
 -- ---- what follows for each item, and for the sums over all
 
 -- a constraint of weight 1 keeps to its limits where one of its kind, relation and limit does
-pub unweighted-limits : {k : Constraint} → ConstraintLimits k → ConstraintLimits (unweighted k.kind k.relation k.limit)
+pub unweighted-limits : {k : Constraint} → ConstraintLimits k → ConstraintLimits (unweighted k)
 unweighted-limits l =
     record { kind = l.kind; relation = l.relation; limit = l.limit; weight = record { low = omega arith; high = omega arith } }
 
@@ -141,10 +141,14 @@ module _ {F : Figures} (f : SmallFigures F) where
       (cond-le (eqb k.kind 3) (omega (arith, f.deviation))
       (cond-le (eqb k.kind 4) (omega arith) (cond-le (eqb k.kind 5) (omega arith) (omega arith)))))
 
+  -- with its weight it is at most 1000 times as much
+  pub weighted_part : {k : Constraint} → ConstraintLimits k → weighted_by F k ≤ most_weight * most_deviation
+  weighted_part {k} l = mul-le-mul l.weight.high (violation_bound k)
+
   module _ {shared : List ℕ} (t : Paying shared) where
-    -- with its weight it is at most 1000 times as much
+    -- so it is for each of them
     weighted_small : Every (λ k. weighted_by F k ≤ most_weight * most_deviation) (constraints_of shared)
-    weighted_small = every_turn (λ k l. mul-le-mul l.weight.high (violation_bound k)) (constraints_of shared) t.constraint
+    weighted_small = every_turn (λ k l. weighted_part l) (constraints_of shared) t.constraint
 
     -- so too at each place of the flat list
     pub weighted_bound : {i : ℕ} → i < constraint_count shared → weighted_by F (constraint_at shared i) ≤ most_weight * most_deviation

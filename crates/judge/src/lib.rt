@@ -1,9 +1,6 @@
 // A colouring judged from scratch: its tallies, its figures, the violations, the total and the verdicts.
 #![tactic(auto)]
 
-ghost use Rattle.std.specs.Prelude.{◌≡◌};
-ghost use Rattle.lists.specs.Sums.{bit};
-
 pub mod tallies; // tallies.rt: what each sector has, the border and the whole workload
 pub mod measures; // measures.rt: the figures of a colouring, what each sector pays, and the gauges of the constraints
 pub mod verdicts; // verdicts.rt: the violations, the total and the verdicts, by the figures and the gauges
@@ -18,11 +15,4 @@ pub struct Figures {
     pub deviation: u64,
     pub bounded: u64,
     pub dwell: u64,
-}
-
-// 1 for a test that passes, 0 for one that fails.
-pub fn bit_of(test: bool) -> u64
-    ensures { result ≡ bit test }
-{
-    if test { 1 } else { 0 }
 }

@@ -12,21 +12,16 @@ ghost use Rattle.judge.specs.Small.{SmallTallies};
 
 use crate::Figures;
 use lists::sum_of;
-use terms::limits::{BOUNDED, CONSTRAINT_LENGTH};
-use terms::{Relation, excess, relation_of};
+use meaning::Constraint;
+use terms::distance;
+use terms::limits::BOUNDED;
 
 // The components of each sector above its first, summed.
 fn excess_of(counts: &[u64]) -> u64
     requires { Few most_sectors most_regions counts.now }
     ensures { result ≡ sum counts.now (λ n. n - 1) }
 {
-    let mut sum = 0;
-    let mut i = 0;
-    while i < counts.len() {
-        sum += excess(counts[i], 1);
-        i += 1;
-    }
-    sum
+    counts.iter().map(|count| count.saturating_sub(1)).sum()
 }
 
 // How far the workloads of the sectors are from the average, in units of one over the number of sectors, summed.
@@ -36,16 +31,14 @@ fn deviation_of(sectors: u64, whole: u64, loads: &[u64]) -> u64
     requires few { Few most_sectors most_load loads.now }
     ensures { result ≡ sum loads.now (λ x. gap (sectors * x) whole) }
 {
-    let mut sum = 0;
-    let mut i = 0;
-    while i < loads.len() {
-        sum += terms::apart(sectors * loads[i], whole);
-        i += 1;
-    }
-    sum
+    loads
+        .iter()
+        .map(|load| (sectors * *load).abs_diff(whole))
+        .sum()
 }
 
 // The figures by the tallies, the whole workload, the border and what the constraints of kind 4 and of kind 5 add to the total.
+#[tactic(auto, unfolding(crate::specs::Figures::figures_by))]
 pub fn figures_of(
     sectors: u64,
     whole: u64,
@@ -75,36 +68,33 @@ pub fn price_all(limited: &[u64], loads: &[u64], prices: &mut [u64])
     requires prices_len { length prices.old ≡ length loads.now }
     ensures { prices.new ≡ map (price (constraints_of limited.now)) loads.now }
 {
-    let mut i = 0;
-    while i < prices.len() {
-        prices[i] = kinds::price(limited, loads[i]);
-        i += 1;
+    // By index: of a list that is written through a `zip` a proof knows nothing afterwards.
+    for (i, price) in prices.iter_mut().enumerate() {
+        *price = kinds::price(limited, loads[i]);
     }
 }
 
-// How far the workloads of the sectors are from standing in the relation to the limit, summed.
-pub fn distances(loads: &[u64], relation: Relation, limit: u64) -> u64
+// How far the workloads of the sectors are from standing in the relation of a code to the limit, summed.
+pub fn distances(loads: &[u64], relation: u64, limit: u64) -> u64
     requires few { Few most_sectors most_load loads.now }
     requires limit_le_most_limit { limit ≤ most_limit }
-    ensures { result ≡ sum loads.now (λ x. distance relation.code x limit) }
+    ensures { result ≡ sum loads.now (λ x. distance relation x limit) }
 {
-    let mut sum = 0;
-    let mut i = 0;
-    while i < loads.len() {
-        sum += relation.distance(loads[i], limit);
-        i += 1;
-    }
-    sum
+    loads
+        .iter()
+        .map(|load| distance(relation, *load, limit))
+        .sum()
 }
 
 // What a constraint's verdict asks for by the workloads: the distances of a bounded one, and nothing of another.
-pub fn gauge_of(loads: &[u64], kind: u64, relation: u64, limit: u64) -> u64
+#[tactic(auto, unfolding(crate::specs::Figures::gauge_by))]
+pub fn gauge_of(loads: &[u64], constraint: Constraint) -> u64
     requires few { Few most_sectors most_load loads.now }
-    requires constraint_limits { ConstraintLimits (unweighted kind relation limit) }
-    ensures { result ≡ gauge_by loads.now (unweighted kind relation limit) }
+    requires constraint_limits { ConstraintLimits (unweighted constraint) }
+    ensures { result ≡ gauge_by loads.now constraint }
 {
-    if kind == BOUNDED {
-        return distances(loads, relation_of(relation), limit);
+    if constraint.kind == BOUNDED {
+        return distances(loads, constraint.relation, constraint.limit);
     }
     0
 }
@@ -116,15 +106,7 @@ pub fn gauge_all(constraints: &[u64], loads: &[u64], gauges: &mut [u64])
     requires gauges_len { length gauges.old ≡ constraint_count constraints.now }
     ensures { gauges.new ≡ gauges_by loads.now constraints.now }
 {
-    let mut k = 0;
-    while k < gauges.len() {
-        let at = CONSTRAINT_LENGTH * k;
-        gauges[k] = gauge_of(
-            loads,
-            constraints[at],
-            constraints[at + 1],
-            constraints[at + 2],
-        );
-        k += 1;
+    for (k, gauge) in gauges.iter_mut().enumerate() {
+        *gauge = gauge_of(loads, Constraint::at(constraints, k));
     }
 }

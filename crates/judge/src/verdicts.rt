@@ -5,12 +5,14 @@ ghost use Rattle.terms.specs.Distance.{stands};
 ghost use Rattle.meaning.specs.Plan.{ConstraintLimits, constraints_of};
 ghost use Rattle.meaning.specs.Moves.{verdict_length};
 ghost use Rattle.kinds.specs.Constraints.{Paying};
-ghost use Rattle.judge.specs.Figures.{constraint_count, unweighted, violation_by, violation_at, total_by, verdicts_by};
+ghost use Rattle.judge.specs.Figures.{constraint_count, unweighted, violation_by, violation_at, weighted_by, total_by, verdicts_by};
 ghost use Rattle.judge.specs.Small.{SmallFigures, Small};
 
-use crate::{Figures, bit_of};
+use crate::Figures;
+use kinds::Constraints;
+use meaning::Constraint;
+use terms::distance;
 use terms::limits::{BALANCED, BORDER, CONNECTED, CONSTRAINT_LENGTH, VERDICT_LENGTH};
-use terms::{excess, relation_of};
 
 // 1 where x does not stand in the relation to the limit, 0 where it does.
 fn missed(relation: u64, x: u64, limit: u64) -> u64
@@ -18,25 +20,22 @@ fn missed(relation: u64, x: u64, limit: u64) -> u64
     requires x_bound { (x < 2 ^ 63) × (limit < 2 ^ 63) }
     ensures { result ≡ bit (not (stands relation x limit)) }
 {
-    bit_of(relation_of(relation).distance(x, limit) != 0)
+    u64::from(distance(relation, x, limit) != 0)
 }
 
 // The violation of a constraint, by the figures and its gauge.
-pub fn violation(figures: Figures, gauge: u64, kind: u64, relation: u64, limit: u64) -> u64
+pub fn violation(figures: Figures, gauge: u64, constraint: Constraint) -> u64
     requires small_figures { SmallFigures figures }
-    requires constraint_limits { ConstraintLimits (unweighted kind relation limit) }
-    ensures { result ≡ violation_by figures gauge (unweighted kind relation limit) }
+    requires constraint_limits { ConstraintLimits (unweighted constraint) }
+    ensures { result ≡ violation_by figures gauge constraint }
 {
-    if kind == CONNECTED {
-        return missed(relation, figures.components, limit) + figures.excess;
+    let limit = constraint.limit;
+    match constraint.kind {
+        CONNECTED => missed(constraint.relation, figures.components, limit) + figures.excess,
+        BORDER => figures.border.saturating_sub(limit),
+        BALANCED => figures.deviation.saturating_sub(limit),
+        _ => gauge,
     }
-    if kind == BORDER {
-        return excess(figures.border, limit);
-    }
-    if kind == BALANCED {
-        return excess(figures.deviation, limit);
-    }
-    gauge
 }
 
 // The violation of constraint k, from 0.
@@ -45,14 +44,16 @@ pub fn violation_at(constraints: &[u64], figures: Figures, gauges: &[u64], k: us
     requires k_bound { k < constraint_count constraints.now }
     ensures { result ≡ violation_at figures gauges.now constraints.now k }
 {
-    let at = CONSTRAINT_LENGTH * k;
-    violation(
-        figures,
-        gauges[k],
-        constraints[at],
-        constraints[at + 1],
-        constraints[at + 2],
-    )
+    violation(figures, gauges[k], Constraint::at(constraints, k))
+}
+
+// The violation of a constraint by the figures alone, times its weight.
+fn weighted(figures: Figures, constraint: Constraint) -> u64
+    requires small_figures { SmallFigures figures }
+    requires constraint_limits { ConstraintLimits constraint }
+    ensures { result ≡ weighted_by figures constraint }
+{
+    constraint.weight * violation(figures, 0, constraint)
 }
 
 // The total: weight times violation, summed over the constraints of kinds 1 to 3, and what the figures have of kinds 4 and 5.
@@ -61,16 +62,10 @@ pub fn total(shared: &[u64], figures: Figures) -> u64
     requires paying { Paying shared.now }
     ensures { result ≡ total_by figures (constraints_of shared.now) }
 {
-    let n = shared.len() / CONSTRAINT_LENGTH;
-    let mut total = 0;
-    let mut k = 0;
-    while k < n {
-        let at = CONSTRAINT_LENGTH * k;
-        let v = violation(figures, 0, shared[at], shared[at + 1], shared[at + 2]);
-        total += shared[at + 3] * v;
-        k += 1;
-    }
-    total + figures.bounded + figures.dwell
+    let weighted: u64 = Constraints(shared)
+        .map(|constraint| weighted(figures, constraint))
+        .sum();
+    weighted + figures.bounded + figures.dwell
 }
 
 // Puts down the verdict on each constraint; what lies beyond stays.
@@ -79,13 +74,11 @@ pub fn put_verdicts(constraints: &[u64], figures: Figures, gauges: &[u64], verdi
     requires constraints_in_bounds { verdict_length * constraint_count constraints.now ≤ length verdicts.old }
     ensures { verdicts.new ≡ verdicts_by figures gauges.now constraints.now (constraint_count constraints.now) ++ drop (verdict_length * constraint_count constraints.now) verdicts.old }
 {
-    let n = constraints.len() / CONSTRAINT_LENGTH;
-    let mut k = 0;
-    while k < n {
+    // By index: after a loop over `chunks_exact_mut` a proof knows only how long the list is.
+    for k in 0..constraints.len() / CONSTRAINT_LENGTH {
         let at = VERDICT_LENGTH * k;
         let v = violation_at(constraints, figures, gauges, k);
-        verdicts[at] = bit_of(v == 0);
+        verdicts[at] = u64::from(v == 0);
         verdicts[at + 1] = v;
-        k += 1;
     }
 }

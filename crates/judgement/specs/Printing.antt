@@ -1,30 +1,28 @@
 -- The text of a sheet, from what judging it leaves.
 -- Assumes nothing.
-use Rattle.std.specs.Prelude.{ℕ, ◌*◌, ◌≤◌, ◌<◌, ◌≡◌, refl, List, length, take}
-use Rattle.std.proofs.Common.{sym, ◌∙◌}
+use Rattle.std.specs.Prelude.{ℕ, ◌*◌, ◌≤◌, ◌<◌, ◌≡◌, refl, List, Ok, Err, length, take}
 use borrow.Author.Tests.{eq-eqb, ne_eqb, le-leb, lt-leb}
 use Rattle.meaning.specs.Plan.{constraint_length}
 use Rattle.meaning.specs.Moves.{verdict_length}
 use Rattle.report.specs.Text.{verdict_text, refused_text, most_text}
 use Rattle.form.specs.Over.{over}
+use Rattle.refusals.specs.declared.Refusal.{Refusal}
 use Rattle.judging.specs.declared.Judged.{Judged}
 use Rattle.judging.specs.Judged.{Leaves}
-use Rattle.judging.specs.Fronts.{constraints_front, verdicts-front}
+use Rattle.judging.specs.Fronts.{refused_left, judged_left, constraints_front, verdicts-front}
 use Rattle.judgement.specs.Promise.{code, text_of, Printed, printed, TextPromise, left}
 use Rattle.judgement.specs.Told.{leaves_told}
 
-module _ {sheet cs vs : List ℕ} {r : Judged} {cs' vs' : List ℕ} (h : Leaves sheet cs vs r cs' vs') where
-  -- of a sheet that is refused
-  pub text_refused : (r.code ≡ 0 → ⊥) → refused_text r.code r.place ≡ text_of sheet
-  unfolding text_of
-  text_refused n = let t = leaves_told h in rw (t.code_told.answer, t.place_told.answer, ne_eqb (code sheet) 0 (rw t.code_told.answer at n))
+-- of a sheet that is refused
+pub text_refused : {sheet cs vs : List ℕ} {e : Refusal} {cs' vs' : List ℕ} → Leaves sheet cs vs (Err e) cs' vs' → refused_text e.code e.place ≡ text_of sheet
+unfolding text_of
+text_refused {sheet} h = let l = refused_left h in rw (l.1, ne_eqb (code sheet) 0 l.0)
 
-  -- and of one that is not
-  pub text_judged : r.code ≡ 0 → verdict_text (take (constraint_length * r.constraints) cs') (take (verdict_length * r.constraints) vs') r.total ≡ text_of sheet
-  unfolding text_of
-  text_judged z =
-      let t = leaves_told h in
-      rw (constraints_front h, verdicts-front h, t.total_told.answer, eq-eqb (code sheet) 0 (sym t.code_told.answer ∙ z))
+-- and of one that is not
+pub text_judged : {sheet cs vs : List ℕ} {r : Judged} {cs' vs' : List ℕ} → Leaves sheet cs vs (Ok r) cs' vs'
+    → verdict_text (take (constraint_length * r.constraints) cs') (take (verdict_length * r.constraints) vs') r.total ≡ text_of sheet
+unfolding text_of
+text_judged {sheet} h = rw (constraints_front h, verdicts-front h, (leaves_told h).total_told.answer, eq-eqb (code sheet) 0 (judged_left h).0)
 
 module _ (sheet lent : List ℕ) where
   -- what is printed keeps the promise

@@ -10,12 +10,13 @@ ghost use Rattle.judgement.specs.Promise as judgement;
 ghost use Rattle.judgement.specs.Told.{Told};
 
 use judging::{Judged, judge_sheet};
+use refusals::Refusal;
 use report::{MOST_TEXT, put_refusal, put_verdicts};
 use terms::in_limits;
 use terms::limits::{CONSTRAINT_LENGTH, MOST_CONSTRAINTS, VERDICT_LENGTH};
 
 // Judges a sheet, and keeps only what is answered.
-fn numbers_in(sheet: &[u8]) -> Judged
+fn numbers_in(sheet: &[u8]) -> Result<Judged, Refusal>
     ensures { Told sheet.now result }
 {
     let mut constraints = [0u64; CONSTRAINT_LENGTH * MOST_CONSTRAINTS as usize];
@@ -27,28 +28,28 @@ fn numbers_in(sheet: &[u8]) -> Judged
 pub fn code(sheet: &[u8]) -> u64
     ensures { Promise (judgement.code sheet.now) result }
 {
-    numbers_in(sheet).code
+    numbers_in(sheet).err().map_or(0, |refusal| refusal.code)
 }
 
 // The place that the refusal names, 0 when it names none or the sheet is not refused.
 pub fn place(sheet: &[u8]) -> u64
     ensures { Promise (judgement.place sheet.now) result }
 {
-    numbers_in(sheet).place
+    numbers_in(sheet).err().map_or(0, |refusal| refusal.place)
 }
 
 // The total of a sheet, 0 when it is refused.
 pub fn total(sheet: &[u8]) -> u64
     ensures { Promise (judgement.total_of sheet.now) result }
 {
-    numbers_in(sheet).total
+    numbers_in(sheet).map_or(0, |judged| judged.total)
 }
 
 // How many constraints a sheet has, 0 when it is refused.
 pub fn constraints(sheet: &[u8]) -> u64
     ensures { Promise (judgement.constraint_count sheet.now) result }
 {
-    numbers_in(sheet).constraints
+    numbers_in(sheet).map_or(0, |judged| judged.constraints)
 }
 
 // A number of the verdict on the constraint at a place from 1: number 0 is holds, 1 the violation. For a place outside the list, 0.
@@ -58,12 +59,12 @@ fn verdict_at(sheet: &[u8], place: u64, number: usize) -> u64
 {
     let mut constraints = [0u64; CONSTRAINT_LENGTH * MOST_CONSTRAINTS as usize];
     let mut verdicts = [0u64; VERDICT_LENGTH * MOST_CONSTRAINTS as usize];
-    let judged = judge_sheet(sheet, &mut constraints, &mut verdicts);
-    if !in_limits(1, place, judged.constraints) {
-        return 0;
+    match judge_sheet(sheet, &mut constraints, &mut verdicts) {
+        Ok(judged) if in_limits(1, place, judged.constraints) => {
+            verdicts[VERDICT_LENGTH * (place as usize - 1) + number]
+        }
+        _ => 0,
     }
-    let at = VERDICT_LENGTH * (place as usize - 1) + number;
-    verdicts[at]
 }
 
 // Whether the constraint at a place from 1 holds: 1 or 0. For a place outside the list, 0.
@@ -88,19 +89,18 @@ fn put_judged(sheet: &[u8], text: &mut [u8]) -> usize
 {
     let mut constraints = [0u64; CONSTRAINT_LENGTH * MOST_CONSTRAINTS as usize];
     let mut verdicts = [0u64; VERDICT_LENGTH * MOST_CONSTRAINTS as usize];
-    let judged = judge_sheet(sheet, &mut constraints, &mut verdicts);
-    if judged.code != 0 {
-        return put_refusal(judged.code, judged.place, text);
+    match judge_sheet(sheet, &mut constraints, &mut verdicts) {
+        Err(refusal) => put_refusal(refusal.code, refusal.place, text),
+        Ok(judged) => {
+            let count = judged.constraints as usize;
+            put_verdicts(
+                &constraints[..CONSTRAINT_LENGTH * count],
+                &verdicts[..VERDICT_LENGTH * count],
+                judged.total,
+                text,
+            )
+        }
     }
-    let count = judged.constraints as usize;
-    let constraint_numbers = CONSTRAINT_LENGTH * count;
-    let verdict_numbers = VERDICT_LENGTH * count;
-    put_verdicts(
-        &constraints[..constraint_numbers],
-        &verdicts[..verdict_numbers],
-        judged.total,
-        text,
-    )
 }
 
 // Puts the text of a sheet down at the buffer's start, and answers how many of its bytes that is; what lies beyond stays. A buffer without room for the longest text stays as it is, and the answer is 0.

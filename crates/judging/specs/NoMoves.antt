@@ -10,6 +10,7 @@ use Rattle.lists.specs.ListLaws.{length-list_of}
 use Rattle.meaning.specs.Plan.{constraint_length, constraint_at, constraints_of, most_regions, most_sectors, most_constraints}
 use Rattle.meaning.specs.Moves.{verdict_length, moves_of, last}
 use Rattle.meaning.proofs.MoveLaws.{length-verdicts}
+use Rattle.meaning.specs.declared.Lists.{Lists}
 use Rattle.refusals.specs.Table.{Row, none, plan_table, plan_refusal, room_table, call_table, call_refusal}
 use Rattle.refusals.specs.Passed.{Passed, passed, passed_none}
 use Rattle.call.specs.Promise.{Input, Outcome, given, ran, outcome, Promise, is_outcome, input}
@@ -18,6 +19,7 @@ use Rattle.form.specs.Form.{Contents}
 use Rattle.form.proofs.ContentsLaws.{valid_contents, limits_valid}
 use Rattle.form.specs.Refusals.{contents_table, contents_refusal}
 use Rattle.form.specs.Over.{over}
+use Rattle.holding.specs.Held.{Lends}
 use Rattle.judging.specs.Judgement.{plan_held, verdicts_held, total_held}
 
 -- ---- how many verdicts there are
@@ -71,10 +73,6 @@ module _ (k : Contents) (rows : List ℤ) (lent work : List ℕ) where
 
 -- so it is with lists that are those of the contents
 pub judges_lists : (k : Contents) (rows : List ℤ) (lent work : List ℕ) → (contents_refusal Second k).code ≡ 0 → verdict_length * most_constraints ≤ length lent → most_regions + 2 * most_sectors + 1 ≤ length work
-    → {w o e n v t s : List ℕ} {x : Outcome} → w ≡ k.workloads → o ≡ k.outside → e ≡ k.edges → n ≡ k.counts → v ≡ k.visits → t ≡ k.constraints → s ≡ k.colouring
-    → Promise (input k.R k.S w o e n v t s [] rows lent work) x → (x.answer.last ≡ total_held k) × (x.verdicts ≡ over (verdicts_held k) lent)
-judges_lists k rows lent work z r m w o e n v t s p = judges k rows lent work z r m (rw (w, o, e, n, v, t, s) at p)
-
--- a list that was put down at the front of another is its front
-pub front_of : {xs ys out : List ℕ} {n : ℕ} (lent : List ℕ) → out ≡ over xs lent → xs ≡ ys → length ys ≡ n → take n out ≡ ys
-front_of {xs} {n = n} lent e f l = rw (e, take_at xs (drop (length xs) lent) n (ap length f ∙ l)) f
+    → {l : Lists} {s : List ℕ} {x : Outcome} → Lends k l → s ≡ k.colouring
+    → Promise (input k.R l.sectors l.workloads.now l.outside.now l.edges.now l.counts.now l.visits.now l.constraints.now s [] rows lent work) x → (x.answer.last ≡ total_held k) × (x.verdicts ≡ over (verdicts_held k) lent)
+judges_lists k rows lent work z r m l s p = judges k rows lent work z r m (rw (l.sectors, l.workloads, l.outside, l.edges, l.counts, l.visits, l.constraints, s) at p)

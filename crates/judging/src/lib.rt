@@ -15,18 +15,14 @@ ghost use Rattle.judging.specs.Judged.{Leaves};
 use form::{Form, Head};
 use gathering::read;
 use holding::MOST_HELD;
-use holding::places::{
-    colouring_in, constraints_in, counts_in, edges_in, outside_in, visits_in, workloads_in,
-};
-use lists::copy;
+use holding::places::{colouring_in, lists_in};
+use refusals::Refusal;
 use sheet::opening::head_in;
 use terms::limits::{MOST_REGIONS, MOST_SECTORS};
 
-// What a sheet comes to: a refusal's code and place, or code 0 with the number of constraints and the total.
-#[derive(Drop)]
+// What a sheet that is not refused comes to: how many constraints it has, and the total.
+#[derive(Clone, Copy)]
 pub struct Judged {
-    pub code: u64,
-    pub place: u64,
     pub constraints: u64,
     pub total: u64,
 }
@@ -38,23 +34,16 @@ fn judge_held(head: Head, held: &[u64], verdicts: &mut [u64]) -> u64
     requires most_constraints_in_bounds { verdict_length * most_constraints ≤ length verdicts.old }
     ensures { let k = contents_held head held.now in (result ≡ total_held k) × (verdicts.new ≡ over (verdicts_held k) verdicts.old) }
 {
-    let regions = head.regions as usize;
     let mut colouring = [0u64; MOST_REGIONS as usize];
-    copy(colouring_in(held, head), &mut colouring);
-    let mut rows = [0i64; 0];
+    let lent = &mut colouring[..head.regions as usize];
+    lent.copy_from_slice(colouring_in(held, head));
     let mut work = [0u64; MOST_REGIONS as usize + 2 * MOST_SECTORS as usize + 1];
     let answer = call::judge(
         head.regions,
-        head.sectors,
-        workloads_in(held, head),
-        outside_in(held, head),
-        edges_in(held, head),
-        counts_in(held, head),
-        visits_in(held, head),
-        constraints_in(held, head),
-        &mut colouring[..regions],
+        lists_in(held, head),
+        lent,
         &[],
-        &mut rows,
+        &mut [],
         verdicts,
         &mut work,
     );
@@ -62,28 +51,23 @@ fn judge_held(head: Head, held: &[u64], verdicts: &mut [u64]) -> u64
 }
 
 // Puts the constraints of a sheet and the verdicts on them down at the fronts of the lent lists; a sheet that is refused leaves them as they are.
-pub fn judge_sheet(sheet: &[u8], constraints: &mut [u64], verdicts: &mut [u64]) -> Judged
+pub fn judge_sheet(
+    sheet: &[u8],
+    constraints: &mut [u64],
+    verdicts: &mut [u64],
+) -> Result<Judged, Refusal>
     requires most_constraints_in_bounds { constraint_length * most_constraints ≤ length constraints.old }
     requires most_constraints_in_bounds_2 { verdict_length * most_constraints ≤ length verdicts.old }
     ensures { Leaves sheet.now constraints.old verdicts.old result constraints.new verdicts.new }
 {
     let mut held = [0u64; MOST_HELD];
-    let refusal = read(sheet, &mut held);
-    if refusal.code != 0 {
-        return Judged {
-            code: refusal.code,
-            place: refusal.place,
-            constraints: 0,
-            total: 0,
-        };
-    }
+    read(sheet, &mut held)?;
     let head = head_in(Form::of(sheet), sheet);
-    copy(constraints_in(&held, head), constraints);
+    let own = lists_in(&held, head).constraints;
+    constraints[..own.len()].copy_from_slice(own);
     let total = judge_held(head, &held, verdicts);
-    Judged {
-        code: 0,
-        place: 0,
+    Ok(Judged {
         constraints: head.constraints,
         total,
-    }
+    })
 }

@@ -1,7 +1,7 @@
 -- The constraints of a flat list, one by one, and few of them within their limits.
 -- Assumes nothing.
-use Rattle.std.specs.Prelude.{ℕ, suc, ◌+◌, ◌*◌, ◌/◌, ◌≤◌, ◌<◌, ◌≡◌, List, ◌∷◌, length, get_or, take, drop}
-use Rattle.std.proofs.Common.{add-zero, arith, sym, ◌∙◌, length-take-le, get_or-take, ext_get_or}
+use Rattle.std.specs.Prelude.{ℕ, suc, ◌+◌, ◌-◌, ◌*◌, ◌/◌, ◌≤◌, ◌<◌, ◌≡◌, List, [], ◌∷◌, length, get_or, take, drop}
+use Rattle.std.proofs.Common.{add-zero, arith, sym, ap, ◌∙◌, length-take-le, length-drop, get_or-take, get_or-drop, ext_get_or}
 use Rattle.lists.specs.Sums.{Every}
 use Rattle.lists.specs.ListLaws.{length-list_of, drop-list_of, list_of_every, get_or-list_of}
 use Rattle.meaning.specs.Plan.{Constraint, constraint_length, constraint_at, constraints_of, most_constraints, ConstraintLimits}
@@ -54,3 +54,29 @@ constraints_take m xs h =
         constraint_at_lem front (omega (arith, length_constraints front)) _
         ∙ constraint_same front xs i i (λ j b. get_or-take (constraint_length * m) xs _ 0 (omega (arith, size)))
         ∙ sym (get_or-take m (constraints_of xs) i _ (omega (arith, size)) ∙ constraint_at_lem xs (omega (arith, size)) _)
+
+-- those past the first m stand past their numbers in the flat list
+pub constraints_drop : (m : ℕ) (xs : List ℕ) → constraints_of (drop (constraint_length * m) xs) ≡ drop m (constraints_of xs)
+constraints_drop m xs = ext_get_or (constraint_at xs 0) _ _ (size ∙ sym (length-drop m (constraints_of xs))) each
+  where
+    past : List ℕ
+    past = drop (constraint_length * m) xs
+
+    size : length (constraints_of past) ≡ length (constraints_of xs) - m
+    size = omega (arith, length_constraints past, length_constraints xs, length-drop (constraint_length * m) xs)
+
+    each : (i : ℕ) → i < length (constraints_of past) → get_or (constraints_of past) i (constraint_at xs 0) ≡ get_or (drop m (constraints_of xs)) i (constraint_at xs 0)
+    each i l =
+        let e : (j : ℕ) → constraint_length * m + (constraint_length * i + j) ≡ constraint_length * (m + i) + j = λ j. omega arith in
+        constraint_at_lem past (omega (arith, length_constraints past)) _
+        ∙ constraint_same past xs i (m + i) (λ j b. get_or-drop (constraint_length * m) xs (constraint_length * i + j) 0 ∙ ap (λ n. get_or xs n 0) (e j))
+        ∙ sym (get_or-drop m (constraints_of xs) i _ ∙ constraint_at_lem xs (omega (arith, size, length_constraints xs)) _)
+
+-- too few numbers hold none
+pub constraints_none : (xs : List ℕ) → length xs < constraint_length → constraints_of xs ≡ []
+unfolding constraints_of
+constraints_none xs h = let e : length xs / constraint_length ≡ 0 = omega arith in rw e
+
+-- else the first four are the first
+pub constraints_first : (xs : List ℕ) → constraint_length ≤ length xs → constraints_of xs ≡ constraint_at xs 0 ∷ constraints_of (drop constraint_length xs)
+constraints_first xs h = constraint_next xs {k = 0} (omega arith) ∙ ap (λ ks. constraint_at xs 0 ∷ ks) (sym (constraints_drop 1 xs))

@@ -1,17 +1,45 @@
 // The constraints of some kinds, picked out of all, and what a number pays for them.
 #![tactic(auto)]
 
-ghost use Rattle.std.specs.Prelude.{◌≡◌, ◌*◌, ◌/◌, ◌≤◌, ◌<◌, length, take};
-ghost use Rattle.meaning.specs.Plan.{constraint_length, constraint_at, constraints_of};
+ghost use Rattle.std.specs.Prelude.{◌≡◌, ◌*◌, ◌≤◌, length, take};
+ghost use Rattle.std.specs.Iterator.{YieldsFirst, item_count};
+ghost use Rattle.meaning.specs.Plan.{ConstraintLimits, constraint_length, constraints_of};
 ghost use Rattle.meaning.specs.Bounds.{most_load};
 ghost use Rattle.meaning.specs.Prices.{of_kinds, weight_of, price};
 ghost use Rattle.kinds.specs.Constraints.{Paying};
 ghost use Rattle.kinds.specs.Picked.{Picking, Picks};
-ghost use Rattle.kinds.specs.Paid.{price_by, weight_by, weights_of};
+ghost use Rattle.kinds.specs.Paid.{price_by, weights_of};
 
 use lists::copy;
+use meaning::Constraint;
 use terms::limits::{BALANCED, BORDER, CONNECTED, CONSTRAINT_LENGTH};
-use terms::{in_limits, relation_of};
+use terms::{distance, in_limits};
+
+// The constraints of a flat list, one after another.
+#[derive(Drop)]
+pub struct Constraints<'a>(pub &'a [u64]);
+
+impl<'a> Iterator for Constraints<'a> {
+    type Item = Constraint;
+
+    ghost next_gives = { YieldsFirst (λ s. constraints_of s.0.now) };
+
+    ghost remaining = { item_count (λ s. constraints_of s.0.now) };
+
+    #[tactic(auto, using(crate::specs::Constraints::constraints_none))]
+    fn next(&mut self) -> Option<Constraint> {
+        let [kind, relation, limit, weight, others @ ..] = self.0 else {
+            return None;
+        };
+        self.0 = others;
+        Some(Constraint {
+            kind: *kind,
+            relation: *relation,
+            limit: *limit,
+            weight: *weight,
+        })
+    }
+}
 
 // Puts constraint k, from 0, down after the n that are picked, where it is of the kinds low to high; answers how many are picked then.
 fn pick_at(
@@ -41,25 +69,21 @@ pub fn pick(constraints: &[u64], low: u64, high: u64, picked: &mut [u64]) -> usi
     ensures result_in_bounds { constraint_length * result ≤ length picked.new }
     ensures picked_after { constraints_of (take (constraint_length * result) picked.new) ≡ of_kinds low high (constraints_of constraints.now) }
 {
-    let count = constraints.len() / CONSTRAINT_LENGTH;
     let mut n = 0;
-    let mut k = 0;
-    while k < count {
+    for k in 0..constraints.len() / CONSTRAINT_LENGTH {
         n = pick_at(constraints, low, high, picked, k, n);
-        k += 1;
     }
     n
 }
 
-// The distance of x from the limit of constraint k, from 0, times the weight.
-fn price_by(constraints: &[u64], k: usize, x: u64) -> u64
-    requires paying { Paying constraints.now }
+// The distance of x from the limit of a constraint, times its weight.
+#[tactic(auto, using(crate::specs::Paid::part_bound))]
+fn price_by(constraint: Constraint, x: u64) -> u64
+    requires limits { ConstraintLimits constraint }
     requires x_le_most_load { x ≤ most_load }
-    requires k_in_bounds { k < length constraints.now / constraint_length }
-    ensures { result ≡ price_by x (constraint_at constraints.now k) }
+    ensures { result ≡ price_by x constraint }
 {
-    let at = CONSTRAINT_LENGTH * k;
-    constraints[at + 3] * relation_of(constraints[at + 1]).distance(x, constraints[at + 2])
+    constraint.weight * distance(constraint.relation, x, constraint.limit)
 }
 
 // What x, a workload or the seconds of a stretch, pays for all the constraints.
@@ -68,14 +92,9 @@ pub fn price(constraints: &[u64], x: u64) -> u64
     requires x_le_most_load { x ≤ most_load }
     ensures { result ≡ price (constraints_of constraints.now) x }
 {
-    let n = constraints.len() / CONSTRAINT_LENGTH;
-    let mut sum = 0;
-    let mut k = 0;
-    while k < n {
-        sum += price_by(constraints, k, x);
-        k += 1;
-    }
-    sum
+    Constraints(constraints)
+        .map(|constraint| price_by(constraint, x))
+        .sum()
 }
 
 // The summed weights of the constraints of the kinds 1, 2 and 3.
@@ -86,31 +105,18 @@ pub struct Weights {
     pub balanced: u64,
 }
 
-// The weight of constraint k, from 0, where it is of the kind, and else 0.
-fn weight_by(constraints: &[u64], k: usize, kind: u64) -> u64
-    requires { k < length constraints.now / constraint_length }
-    ensures { result ≡ weight_by kind (constraint_at constraints.now k) }
-{
-    let at = CONSTRAINT_LENGTH * k;
-    if constraints[at] == kind {
-        return constraints[at + 3];
-    }
-    0
-}
-
 // The summed weight of the constraints of a kind.
 fn weight_of(constraints: &[u64], kind: u64) -> u64
     requires { Paying constraints.now }
     ensures { result ≡ weight_of kind (constraints_of constraints.now) }
 {
-    let n = constraints.len() / CONSTRAINT_LENGTH;
-    let mut sum = 0;
-    let mut k = 0;
-    while k < n {
-        sum += weight_by(constraints, k, kind);
-        k += 1;
-    }
-    sum
+    Constraints(constraints)
+        .map(|constraint| if constraint.kind == kind {
+            constraint.weight
+        } else {
+            0
+        })
+        .sum()
 }
 
 // What the constraints of each of the kinds 1 to 3 weigh.

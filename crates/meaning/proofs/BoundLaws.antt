@@ -1,6 +1,6 @@
 -- How large the numbers of a colouring get within the limits of the documents, whatever the colouring's length and sectors.
 -- Assumes nothing.
-use Rattle.std.specs.Prelude.{ℕ, ◌+◌, ◌-◌, ◌*◌, ◌≤◌, List, Bool, cond, ◌&&◌}
+use Rattle.std.specs.Prelude.{ℕ, ◌-◌, ◌*◌, ◌≤◌, List, Bool, cond, ◌&&◌}
 use Rattle.std.proofs.Common.{mul-le-mul, le_trans, arith}
 use Rattle.std.proofs.Math.Bool.{not}
 use Rattle.std.proofs.Math.Dec.{eqb}

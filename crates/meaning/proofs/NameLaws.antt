@@ -1,6 +1,6 @@
 -- Laws of names: a new name is a sector's where the old one is, different sectors have different names, and a move's numbers in the new names ask for the move in the new names.
 -- Assumes nothing.
-use Rattle.std.specs.Prelude.{ℕ, ◌-◌, ◌≤◌, ◌≡◌, Bool, ◌&&◌, List, eqb, get_or}
+use Rattle.std.specs.Prelude.{ℕ, ◌-◌, ◌≤◌, ◌≡◌, Bool, ◌&&◌, List, eqb, get_or, Option, Some, None}
 use Rattle.std.proofs.Common.{arith, sym, ap}
 use Rattle.std.proofs.Math.Decide.{dec_le}
 use Rattle.std.proofs.Math.Path.{refl}
@@ -14,9 +14,6 @@ use Rattle.lists.specs.Tests.{test-same}
 use Rattle.terms.specs.Plan.{within, region_of, sector_of}
 use Rattle.terms.specs.Moves.{no_kind, no_second, recolouring, exchange, question, of_region, move_of}
 use Rattle.terms.specs.declared.Region.{Region}
-use Rattle.terms.specs.declared.MadeRegion.{MadeRegion}
-use Rattle.terms.specs.declared.MadeRegion.TheVariants as region
-use Rattle.terms.specs.declared.MadeSector.TheVariants as sector
 use Rattle.terms.specs.declared.Move.TheVariants.{Ask, Refused}
 use Rattle.meaning.proofs.Together.{Together}
 use Rattle.meaning.specs.Names.{Renaming, name, renamed, renamed_move, renamed_second}
@@ -95,14 +92,14 @@ module _ {S : ℕ} {p : ℕ → ℕ} (r : Renaming S p) where
   unfolding recolouring
   named_recolouring make v b = rw (name-within b) (go (within 1 b S))
     where
-      go : (t : Bool) → recolouring make v (cond t (sector.Made (record { 0 = name S p b })) sector.Refused) ≡ renamed_move S p (recolouring make v (cond t (sector.Made (record { 0 = b })) sector.Refused))
+      go : (t : Bool) → recolouring make v (cond t (Some (record { 0 = name S p b })) None) ≡ renamed_move S p (recolouring make v (cond t (Some (record { 0 = b })) None))
       go true = refl
       go false = refl
 
-  named_exchange : (make : Bool) (v : Region) (w : MadeRegion) → exchange make v w ≡ renamed_move S p (exchange make v w)
+  named_exchange : (make : Bool) (v : Region) (w : Option Region) → exchange make v w ≡ renamed_move S p (exchange make v w)
   unfolding exchange
-  named_exchange make v (region.Made w) = refl
-  named_exchange make v region.Refused = refl
+  named_exchange make v (Some w) = refl
+  named_exchange make v None = refl
 
   named_question : (v : Region) (b : ℕ) → question v b ≡ renamed_move S p (question v b)
   unfolding question
@@ -113,10 +110,10 @@ module _ {S : ℕ} {p : ℕ → ℕ} (r : Renaming S p) where
       go false = refl
 
   -- a move of kind 1 to 5 whose first number is a region
-  named_region : (R kind b : ℕ) (v : MadeRegion) → of_region R S kind v (cond (leb kind 2) (name S p b) b) ≡ renamed_move S p (of_region R S kind v b)
+  named_region : (R kind b : ℕ) (v : Option Region) → of_region R S kind v (cond (leb kind 2) (name S p b) b) ≡ renamed_move S p (of_region R S kind v b)
   unfolding of_region
-  named_region R kind b region.Refused = refl
-  named_region R kind b (region.Made v) = go (leb kind 2) (leb kind 4)
+  named_region R kind b None = refl
+  named_region R kind b (Some v) = go (leb kind 2) (leb kind 4)
     where
       go : (x y : Bool) → let c = cond x (name S p b) b in
           cond x (recolouring (eqb kind 2) v (sector_of S c)) (cond y (exchange (eqb kind 4) v (region_of R c)) (question v c))

@@ -1,10 +1,7 @@
 -- How large the numbers of a colouring get within the limits of the documents, whatever the colouring's length and sectors.
 -- Assumes nothing.
-use Rattle.std.specs.Prelude.{ℕ, ◌+◌, ◌-◌, ◌*◌}
-use Rattle.terms.specs.Distance.{distance}
+use Rattle.std.specs.Prelude.{ℕ, ◌+◌, ◌*◌}
 use Rattle.meaning.specs.Plan.{most_regions, most_workload, most_edges, most_area, most_flights, most_visits, most_limit}
-use Rattle.meaning.specs.Stretches.{stretches}
-use Rattle.meaning.specs.Kinds.{whole, border, total}
 
 -- the most workload that a sector, or the whole plan, can have
 abbrev pub most_load : ℕ

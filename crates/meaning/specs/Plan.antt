@@ -2,24 +2,21 @@
 -- Assumes nothing.
 use Rattle.std.specs.Prelude.{ℕ, ◌+◌, ◌*◌, ◌/◌, ◌≤◌, ◌<◌, ◌≡◌, List, [], ◌∷◌, length, get_or, take, drop, replicate}
 use Rattle.lists.specs.Sums.{In, at, up_to, list_of, Every}
+use Rattle.meaning.specs.declared.Edge as edge
+use Rattle.meaning.specs.declared.Constraint as constraint
 
 -- two regions that share a face, and the area of the face
-pub record Edge : Type 0 where
-  pub a : ℕ
-  pub b : ℕ
-  pub area : ℕ
+abbrev pub Edge : Type 0
+Edge = edge.Edge
+
+-- what is asked of a plan, and how much it weighs
+abbrev pub Constraint : Type 0
+Constraint = constraint.Constraint
 
 -- a region that a flight visits, and for how many seconds
 pub record Visit : Type 0 where
   pub region : ℕ
   pub dwell : ℕ
-
--- what is asked of a plan, and how much it weighs
-pub record Constraint : Type 0 where
-  pub kind : ℕ
-  pub relation : ℕ
-  pub limit : ℕ
-  pub weight : ℕ
 
 -- a plan but for its colouring: how many regions and sectors there are, each region's workload and the area of its face to the outside, the edges, the visits of each flight in order, and the constraints
 pub record Plan : Type 0 where

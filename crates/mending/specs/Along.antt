@@ -1,12 +1,13 @@
 -- The lowest-numbered neighbour whose sector survived is found along the edges, whatever their order.
 -- Assumes nothing.
-use Rattle.std.specs.Prelude.{ℕ, ◌-◌, ◌/◌, ◌≤◌, ◌<◌, min, ◌≡◌, refl, ◌⊎◌, Bool, true, false, cond, not, ◌&&◌, ◌||◌, List, [], ◌∷◌, eqb, length}
-use Rattle.std.proofs.Common.{le_refl, arith, sym, ap, ◌∙◌, inl, inr, ⊎_elim, eqb-true, eq-eqb}
+use Rattle.std.specs.Prelude.{ℕ, ◌-◌, ◌/◌, ◌≤◌, ◌<◌, min, ◌≡◌, refl, ◌⊎◌, Option, None, Some, Bool, true, false, cond, not, ◌&&◌, ◌||◌, List, [], ◌∷◌, eqb, length}
+use Rattle.std.proofs.Common.{le_refl, arith, sym, ap, ◌∙◌, inl, inr, ⊎_elim, eqb-true, eq-eqb, ne_eqb}
 use Rattle.std.proofs.Math.Nat.{min-eq_left, min-eq_right}
 use Rattle.std.proofs.Math.Decide.{dec_le}
 use Rattle.std.proofs.Math.Bool.{and-eq-true_iff, and-or_distrib_right, or_assoc}
 use Rattle.std.proofs.lemmas.Bool.{false≢true, eqb-false, not-true}
 use mathlib.Mathlib.Data.Bool.Basic.{or_inl, or_inr}
+use Rattle.terms.specs.declared.Region.{Region}
 use Rattle.lists.specs.Sums.{In}
 use Rattle.lists.specs.Tests.{or_cases}
 use Rattle.meaning.specs.Plan.{Edge, edge_length, edges_of}
@@ -28,6 +29,47 @@ beyond col v here there = cond (eqb here v && not (is_lost col there)) there 0
 unfoldable pub lowest_in : List Edge → List ℕ → ℕ → ℕ
 lowest_in [] col v = 0
 lowest_in (e ∷ es) col v = lower (beyond col v e.a e.b) (lower (beyond col v e.b e.a) (lowest_in es col v))
+
+-- a region by its number, 0 being no region
+abbrev pub any_region : ℕ → Option Region
+any_region n = cond (eqb n 0) None (Some (record { 0 = n }))
+
+module _ (n : ℕ) where
+  -- where it is no region, the number is 0
+  pub any_none : None ≡ any_region n → n ≡ 0
+  any_none h = go (eqb n 0) refl h
+    where
+      go : (b : Bool) → eqb n 0 ≡ b → ◌≡◌ {A = Option Region} None (cond b None (Some (record { 0 = n }))) → n ≡ 0
+      go true e h = eqb-true n 0 e
+      go false e h = absurd (cc)
+
+  -- else it is the region's
+  pub any_some : {r : Region} → Some r ≡ any_region n → (r.0 ≡ n) × (r.0 ≡ 0 → ⊥)
+  any_some {r} h = go (eqb n 0) refl h
+    where
+      go : (b : Bool) → eqb n 0 ≡ b → ◌≡◌ {A = Option Region} (Some r) (cond b None (Some (record { 0 = n }))) → (r.0 ≡ n) × (r.0 ≡ 0 → ⊥)
+      go true e h = absurd (cc)
+      go false e h = let same : r.0 ≡ n = ap (λ (x : Region). x.0) (cc) in (same, λ z. eqb-false n 0 e (sym same ∙ z))
+
+-- the lower of two regions, if any
+abbrev pub lower_region : Option Region → Option Region → Option Region
+lower_region (Some a) (Some b) = Some (record { 0 = min a.0 b.0 })
+lower_region (Some a) None = Some a
+lower_region None b = b
+
+-- by their numbers it is the same
+lower_region_lem : (a b : ℕ) → lower_region (any_region a) (any_region b) ≡ any_region (lower a b)
+unfolding lower
+lower_region_lem a b = go (eqb a 0) (eqb b 0) refl refl
+  where
+    some : (n : ℕ) → (n ≡ 0 → ⊥) → any_region n ≡ Some (record { 0 = n })
+    some n h = rw (ne_eqb n 0 h)
+
+    go : (x y : Bool) → eqb a 0 ≡ x → eqb b 0 ≡ y → lower_region (cond x None (Some (record { 0 = a }))) (cond y None (Some (record { 0 = b }))) ≡ any_region (cond x b (cond y a (min a b)))
+    go true true e f = rw f
+    go true false e f = rw f
+    go false true e f = rw e
+    go false false e f = sym (some (min a b) (λ z. omega (arith, eqb-false a 0 e, eqb-false b 0 f)))
 
 -- ---- it is the lowest that passes the test
 
@@ -103,22 +145,26 @@ lowest_found edges col v = lowest_unique (lowest_in_lem edges col v) (lowest_bes
 -- ---- by a loop
 
 -- the edges from index k on are gone through, and w is the lowest along them
-pub record Sought (xs col : List ℕ) (v k w : ℕ) : Type 0 where
+pub record Sought (xs col : List ℕ) (v k : ℕ) (w : Option Region) : Type 0 where
   pub taken : Taken (length col) xs k
-  pub found : w ≡ lowest_in (edges_from xs k) col v
+  pub found : w ≡ any_region (lowest_in (edges_from xs k) col v)
 
 -- at first none is
-pub sought_none : {xs col : List ℕ} (v : ℕ) → Ends (length col) (edges_of xs) → Sought xs col v (length xs / edge_length) 0
+pub sought_none : {xs col : List ℕ} (v : ℕ) → Ends (length col) (edges_of xs) → Sought xs col v (length xs / edge_length) None
 unfolding lowest_in
 sought_none {xs} v i = record { taken = taken_none xs i; found = rw (edges_from_end xs) }
 
-module _ {xs col : List ℕ} {v k w : ℕ} (s : Sought xs col v k w) where
+module _ {xs col : List ℕ} {v k : ℕ} {w : Option Region} (s : Sought xs col v k w) where
   -- then the edge before them is, first from its end b to its end a, then from a to b
-  pub sought_more : {x y w₁ w₂ : ℕ} → 0 < k → x ≡ beyond col v (edge_before xs k).b (edge_before xs k).a → w₁ ≡ lower x w
-      → y ≡ beyond col v (edge_before xs k).a (edge_before xs k).b → w₂ ≡ lower y w₁ → Sought xs col v (k - 1) w₂
+  pub sought_more : {x y w₁ w₂ : Option Region} → 0 < k → x ≡ any_region (beyond col v (edge_before xs k).b (edge_before xs k).a) → w₁ ≡ lower_region x w
+      → y ≡ any_region (beyond col v (edge_before xs k).a (edge_before xs k).b) → w₂ ≡ lower_region y w₁ → Sought xs col v (k - 1) w₂
   unfolding lowest_in
-  sought_more low p e q f = record { taken = taken_more s.taken low; found = rw (f, q, e, p, s.found, taken_edge s.taken low) }
+  sought_more low p e q f =
+      record {
+        taken = taken_more s.taken low;
+        found = rw (f, q, e, p, s.found, taken_edge s.taken low, lower_region_lem (beyond col v (edge_before xs k).b (edge_before xs k).a) (lowest_in (edges_from xs k) col v), lower_region_lem);
+      }
 
   -- and in the end all are
-  pub sought_all : k ≡ 0 → w ≡ lowest_beside (edges_of xs) col v
-  sought_all e = s.found ∙ rw e (lowest_found (edges_of xs) col v)
+  pub sought_all : k ≡ 0 → w ≡ any_region (lowest_beside (edges_of xs) col v)
+  sought_all e = s.found ∙ rw e (ap any_region (lowest_found (edges_of xs) col v))

@@ -1,13 +1,13 @@
 -- Document 02, C-21: the laws of a mended colouring and of the list of the lost regions.
 -- Assumes nothing.
-use Rattle.std.specs.Prelude.{ℕ, ◌+◌, ◌≤◌, ◌≡◌, refl, ◌≢◌, ◌↔◌, true, false, cond, List, [], length, get_or}
+use Rattle.std.specs.Prelude.{ℕ, ◌+◌, ◌≤◌, ◌≡◌, refl, ◌≢◌, ◌↔◌, Bool, true, false, cond, List, [], ◌∷◌, eqb, length, get_or, filter}
 use Rattle.std.proofs.Common.{arith, sym, ◌∙◌, eqb-true, eq-eqb, ne_eqb}
-use Rattle.lists.specs.Sums.{In, at, up_to}
+use Rattle.lists.specs.Sums.{In, at, up_to, bit, sum}
 use Rattle.lists.specs.SumLaws.{length_table, at_table, every_up_to}
-use Rattle.lists.specs.Places.{ext_at, at_next}
+use Rattle.lists.specs.Places.{ext_at, at_next, sum-at}
 use Rattle.lists.specs.Tests.{by_eqb}
 use Rattle.lists.specs.Among.{Among, Rising, rising_up_to}
-use Rattle.lists.specs.Passing.{passing-none, passing-up_to, passing_rising}
+use Rattle.lists.specs.Passing.{length-passing, passing-none, passing-up_to, passing_rising}
 use Rattle.meaning.specs.Plan.{Edge}
 use Rattle.mending.specs.Mended.{is_lost, lost, lowest_beside, sector_given, mended}
 use Rattle.mending.specs.Lowest.{LowestNeighbour, lowest_neighbour, lowest_only}
@@ -40,6 +40,18 @@ module _ (col : List ℕ) where
   -- and is not lost where that is a sector
   pub kept_at : (k : ℕ) → get_or col k 0 ≢ 0 → is_lost col (k + 1) ≡ false
   kept_at k n = ne_eqb _ 0 (λ e. n (sym (at_next col k) ∙ e))
+
+-- as many are lost as have 0
+pub lost_counted : (col : List ℕ) → length (filter (λ x. eqb x 0) col) ≡ length (lost col)
+lost_counted col = bits col ∙ sum-at (length col) col (λ x. bit (eqb x 0)) refl ∙ sym (length-passing (is_lost col) (up_to (length col)))
+  where
+    bits : (xs : List ℕ) → length (filter (λ x. eqb x 0) xs) ≡ sum xs (λ x. bit (eqb x 0))
+    bits [] = refl
+    bits (x ∷ xs) = go (eqb x 0) (filter (λ x. eqb x 0) xs) (bits xs)
+      where
+        go : (b : Bool) (ys : List ℕ) {n : ℕ} → length ys ≡ n → length (cond b (x ∷ ys) ys) ≡ bit b + n
+        go true ys e = omega arith
+        go false ys e = omega arith
 
 -- ---- what a lost region is given
 

@@ -6,54 +6,47 @@ ghost use Rattle.lists.specs.Sums.{In};
 ghost use Rattle.meaning.specs.Plan.{edges_of};
 ghost use Rattle.meaning.specs.Paths.{Ends};
 ghost use Rattle.mending.specs.Mended.{lost, lowest_beside, sector_given, mended};
-ghost use Rattle.mending.specs.Along.{lower, beyond};
+ghost use Rattle.mending.specs.Along.{lower_region, any_region, beyond};
 ghost use Rattle.mending.specs.MendedLaws.{sector_mended};
 
+use meaning::Edge;
 use terms::limits::EDGE_LENGTH;
-use terms::{Region, Sector, lesser};
+use terms::{Region, Sector};
 
-// The lower of two regions' numbers, 0 being no region.
-fn lower(a: u64, b: u64) -> u64
-    ensures { result ≡ lower a b }
+// The lower of two regions, if any.
+fn lower(a: Option<Region>, b: Option<Region>) -> Option<Region>
+    ensures { result ≡ lower_region a b }
 {
-    if a == 0 {
-        return b;
+    match (a, b) {
+        (Some(a), Some(b)) => Some(Region(a.0.min(b.0))),
+        (Some(a), None) => Some(a),
+        (None, b) => b,
     }
-    if b == 0 {
-        return a;
-    }
-    lesser(a, b)
 }
 
-// The end `there` of an edge whose other end is `here`, where `here` is the region and the sector of `there` survived; else 0.
-fn beyond(colouring: &[u64], region: Region, here: u64, there: u64) -> u64
+// The end `there` of an edge whose other end is `here`, where `here` is the region and the sector of `there` survived.
+#[tactic(auto, unfolding(crate::specs::Along::beyond))]
+fn beyond(colouring: &[u64], region: Region, here: u64, there: u64) -> Option<Region>
     requires { In (length colouring.now) there }
-    ensures { result ≡ beyond colouring.now region.0 here there }
+    ensures { result ≡ any_region (beyond colouring.now region.0 here there) }
 {
-    if here != region.0 {
-        return 0;
+    if here == region.0 && colouring[there as usize - 1] != 0 {
+        Some(Region(there))
+    } else {
+        None
     }
-    let i = there as usize - 1;
-    if colouring[i] == 0 {
-        return 0;
-    }
-    there
 }
 
-// The lowest-numbered neighbour of a region whose sector survived; 0 where there is none.
-fn lowest_beside(edges: &[u64], colouring: &[u64], region: Region) -> u64
+// The lowest-numbered neighbour of a region whose sector survived, if any.
+fn lowest_beside(edges: &[u64], colouring: &[u64], region: Region) -> Option<Region>
     requires { Ends (length colouring.now) (edges_of edges.now) }
-    ensures { result ≡ lowest_beside (edges_of edges.now) colouring.now region.0 }
+    ensures { result ≡ any_region (lowest_beside (edges_of edges.now) colouring.now region.0) }
 {
-    let mut lowest = 0;
-    let mut k = edges.len() / EDGE_LENGTH;
-    while 0 < k {
-        k -= 1;
-        let i = EDGE_LENGTH * k;
-        let a = edges[i];
-        let b = edges[i + 1];
-        lowest = lower(beyond(colouring, region, b, a), lowest);
-        lowest = lower(beyond(colouring, region, a, b), lowest);
+    let mut lowest = None;
+    for k in (0..edges.len() / EDGE_LENGTH).rev() {
+        let edge = Edge::at(edges, k);
+        lowest = lower(beyond(colouring, region, edge.b, edge.a), lowest);
+        lowest = lower(beyond(colouring, region, edge.a, edge.b), lowest);
     }
     lowest
 }
@@ -63,13 +56,10 @@ fn sector_given(edges: &[u64], colouring: &[u64], region: Region) -> Sector
     requires { Ends (length colouring.now) (edges_of edges.now) }
     ensures { result.0 ≡ sector_given (edges_of edges.now) colouring.now region.0 }
 {
-    let lowest = lowest_beside(edges, colouring, region);
-    if lowest == 0 {
-        return Sector(1);
+    match lowest_beside(edges, colouring, region) {
+        Some(lowest) => Sector(colouring[lowest.0 as usize - 1]),
+        None => Sector(1),
     }
-    let i = lowest as usize - 1;
-    let sector = colouring[i];
-    Sector(sector)
 }
 
 // The sector of a region in the mended colouring.
@@ -78,12 +68,12 @@ fn sector_mended(edges: &[u64], colouring: &[u64], region: Region) -> Sector
     requires in_range { In (length colouring.now) region.0 }
     ensures { result.0 ≡ sector_mended (edges_of edges.now) colouring.now region.0 }
 {
-    let i = region.0 as usize - 1;
-    let sector = colouring[i];
+    let sector = colouring[region.0 as usize - 1];
     if sector == 0 {
-        return sector_given(edges, colouring, region);
+        sector_given(edges, colouring, region)
+    } else {
+        Sector(sector)
     }
-    Sector(sector)
 }
 
 // Puts down the colouring in which every lost region is given a sector, and any other keeps its own.
@@ -92,11 +82,8 @@ pub fn mend(edges: &[u64], survivors: &[u64], colouring: &mut [u64])
     requires colouring_len { length colouring.old ≡ length survivors.now }
     ensures { colouring.new ≡ mended (edges_of edges.now) survivors.now }
 {
-    let mut i = 0;
-    while i < survivors.len() {
-        let region = i as u64 + 1;
-        colouring[i] = sector_mended(edges, survivors, Region(region)).0;
-        i += 1;
+    for (i, sector) in colouring.iter_mut().enumerate() {
+        *sector = sector_mended(edges, survivors, Region(i as u64 + 1)).0;
     }
 }
 
@@ -104,16 +91,7 @@ pub fn mend(edges: &[u64], survivors: &[u64], colouring: &mut [u64])
 pub fn count_lost(survivors: &[u64]) -> usize
     ensures { result ≡ length (lost survivors.now) }
 {
-    let mut count = 0;
-    let mut i = 0;
-    while i < survivors.len() {
-        let sector = survivors[i];
-        i += 1;
-        if sector == 0 {
-            count += 1;
-        }
-    }
-    count
+    survivors.iter().filter(|sector| **sector == 0).count()
 }
 
 // Puts the lost regions down at the front of a list, in increasing order; what lies beyond stays.
@@ -122,12 +100,9 @@ pub fn list_lost(survivors: &[u64], list: &mut [u64])
     ensures { list.new ≡ lost survivors.now ++ drop (length (lost survivors.now)) list.old }
 {
     let mut count = 0;
-    let mut i = 0;
-    while i < survivors.len() {
-        let sector = survivors[i];
-        i += 1;
-        if sector == 0 {
-            list[count] = i as u64;
+    for (i, sector) in survivors.iter().enumerate() {
+        if *sector == 0 {
+            list[count] = i as u64 + 1;
             count += 1;
         }
     }

@@ -10,8 +10,18 @@ ghost use Rattle.neighbours.specs.Degree.{row_end};
 ghost use Rattle.neighbours.specs.Counts.{one_more, Counted};
 ghost use Rattle.neighbours.specs.Rows.{Free, Placed, Filled};
 
-use lists::clear;
+use meaning::Edge;
 use terms::limits::EDGE_LENGTH;
+
+// What is known of the faces that regions share, as `gather` writes it: the plan's edges, where the row of each region begins, the neighbours in the
+// rows, and the areas of the shared faces beside them.
+#[derive(Clone, Copy)]
+pub struct Faces<'a> {
+    pub edges: &'a [u64],
+    pub start: &'a [u64],
+    pub near: &'a [u64],
+    pub areas: &'a [u64],
+}
 
 // Counts one edge more at a region.
 fn count_one(counts: &mut [u64], region: u64)
@@ -28,13 +38,11 @@ fn count_edges(edges: &[u64], counts: &mut [u64])
     requires { Ends (length counts.old) (edges_of edges.now) }
     ensures { Counted (length counts.old) edges.now 0 counts.new }
 {
-    clear(counts);
-    let mut k = edges.len() / EDGE_LENGTH;
-    while 0 < k {
-        k -= 1;
-        let i = EDGE_LENGTH * k;
-        count_one(counts, edges[i]);
-        count_one(counts, edges[i + 1]);
+    counts.fill(0);
+    for k in (0..edges.len() / EDGE_LENGTH).rev() {
+        let edge = Edge::at(edges, k);
+        count_one(counts, edge.a);
+        count_one(counts, edge.b);
     }
 }
 
@@ -44,11 +52,9 @@ fn add_up(counts: &mut [u64])
     ensures { (v : ℕ) → In (length counts.old) v → at counts.new v ≡ row_end (at counts.old) v }
 {
     let mut total = 0;
-    let mut k = 0;
-    while k < counts.len() {
-        total += counts[k];
-        counts[k] = total;
-        k += 1;
+    for count in counts.iter_mut() {
+        total += *count;
+        *count = total;
     }
 }
 
@@ -77,15 +83,10 @@ fn fill(edges: &[u64], start: &mut [u64], near: &mut [u64], areas: &mut [u64])
     requires { Filled (length start.old) (length near.old) edges.now (length edges.now / edge_length) start.old near.old areas.old }
     ensures { Filled (length start.old) (length near.old) edges.now 0 start.new near.new areas.new }
 {
-    let mut k = edges.len() / EDGE_LENGTH;
-    while 0 < k {
-        k -= 1;
-        let i = EDGE_LENGTH * k;
-        let a = edges[i];
-        let b = edges[i + 1];
-        let area = edges[i + 2];
-        place(start, near, areas, b, a, area);
-        place(start, near, areas, a, b, area);
+    for k in (0..edges.len() / EDGE_LENGTH).rev() {
+        let edge = Edge::at(edges, k);
+        place(start, near, areas, edge.b, edge.a, edge.area);
+        place(start, near, areas, edge.a, edge.b, edge.area);
     }
 }
 

@@ -1,5 +1,5 @@
-// Reading goes through a reader, which keeps the lent sheet and its place in it. Each function leaves the work to one that takes the slice and the
-// number.
+// Reading goes through a reader, which keeps the lent sheet and its place in it. Each function leaves the work to one that takes the slice and the number.
+// They are functions, and no methods, since docs/PROMISES.md promises each by its name.
 #![tactic(auto)]
 
 ghost use Rattle.std.specs.Prelude.{◌≡◌};
@@ -33,10 +33,7 @@ pub fn place<'a>(reader: Reader<'a>) -> usize
 pub fn moved<'a>(reader: Reader<'a>, place: usize) -> Reader<'a>
     ensures { Keeps reader.entry.sheet place result }
 {
-    Reader {
-        sheet: reader.sheet,
-        place,
-    }
+    Reader { place, ..reader }
 }
 
 // Goes to the next block; a reader past the end stays where it is.
@@ -44,10 +41,7 @@ pub fn next<'a>(reader: Reader<'a>) -> Reader<'a>
     ensures { Keeps reader.entry.sheet (next_place reader.entry.sheet.now reader.entry.place) result }
 {
     let place = showing::after(reader.sheet, reader.place);
-    Reader {
-        sheet: reader.sheet,
-        place,
-    }
+    Reader { place, ..reader }
 }
 
 // Whether there is no block at the reader's place: none is past the last one, nor anywhere in a sheet whose length, head or block count is refused.

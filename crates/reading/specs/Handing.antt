@@ -1,7 +1,6 @@
 -- What is held, handed over to lent lists.
 -- Assumes nothing.
-use Rattle.std.specs.Prelude.{ℕ, ◌*◌, ◌≤◌, ◌≡◌, List, length}
-use Rattle.std.proofs.Common.{arith, ap}
+use Rattle.std.specs.Prelude.{ℕ, ◌*◌, ◌≤◌, ◌≡◌, List}
 use Rattle.meaning.specs.Plan.{edge_length, visit_length, constraint_length}
 use Rattle.form.specs.declared.Head.{Head}
 use Rattle.form.specs.Form.{Contents}
@@ -26,7 +25,3 @@ pub record HandedOver (k : Contents) (w₀ o₀ e₀ c₀ v₀ t₀ s₀ w o e c
   pub visits : v ≡ over k.visits v₀
   pub constraints : t ≡ over k.constraints t₀
   pub colouring : s ≡ over k.colouring s₀
-
--- a list that is so long fits into another that is no shorter
-pub fits : {xs ys : List ℕ} {n m : ℕ} → xs ≡ ys → length ys ≡ n → n ≤ m → length xs ≤ m
-fits e l r = omega (arith, ap length e)

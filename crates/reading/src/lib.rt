@@ -9,15 +9,13 @@ ghost use Rattle.reading.specs.Handing.{Room, HandedOver};
 
 use form::{Form, Head};
 use holding::MOST_HELD;
-use holding::places::{
-    colouring_in, constraints_in, counts_in, edges_in, outside_in, visits_in, workloads_in,
-};
+use holding::places::{colouring_in, lists_in};
 use lists::copy;
 use refusals::Refusal;
 use sheet::opening::head_in;
 use terms::limits::{CONSTRAINT_LENGTH, EDGE_LENGTH, VISIT_LENGTH};
 
-// What reading answers: a refusal's code and place, or code 0 with the numbers of the head.
+// What reading answers (a struct with a code, since C gets it): a refusal's code and place, or code 0 with the numbers of the head.
 #[repr(C)]
 #[derive(Drop)]
 pub struct Read {
@@ -32,18 +30,20 @@ pub struct Read {
 }
 
 // What a refused reading answers.
-fn refused(refusal: Refusal) -> Read
-    ensures { result ≡ refused_answer refusal }
-{
-    Read {
-        code: refusal.code,
-        place: refusal.place,
-        regions: 0,
-        sectors: 0,
-        edges: 0,
-        constraints: 0,
-        flights: 0,
-        visits: 0,
+impl From<Refusal> for Read {
+    ghost from_gives = { λ refusal read. read ≡ refused_answer refusal };
+
+    fn from(refusal: Refusal) -> Read {
+        Read {
+            code: refusal.code,
+            place: refusal.place,
+            regions: 0,
+            sectors: 0,
+            edges: 0,
+            constraints: 0,
+            flights: 0,
+            visits: 0,
+        }
     }
 }
 
@@ -62,28 +62,16 @@ fn room_right(
     ensures { result ≡ enough head workloads outside edges counts visits constraints colouring }
 {
     let regions = head.regions as usize;
-    if workloads < regions {
-        return false;
-    }
-    if outside < regions {
-        return false;
-    }
-    if edges < EDGE_LENGTH * head.edges as usize {
-        return false;
-    }
-    if counts < head.flights as usize {
-        return false;
-    }
-    if visits < VISIT_LENGTH * head.visits as usize {
-        return false;
-    }
-    if constraints < CONSTRAINT_LENGTH * head.constraints as usize {
-        return false;
-    }
-    regions <= colouring
+    workloads >= regions
+        && outside >= regions
+        && edges >= EDGE_LENGTH * head.edges as usize
+        && counts >= head.flights as usize
+        && visits >= VISIT_LENGTH * head.visits as usize
+        && constraints >= CONSTRAINT_LENGTH * head.constraints as usize
+        && colouring >= regions
 }
 
-// Hands what is held over to lent lists that have room for it.
+// Hands what is held over to lent lists that have room for it. (The lists that are lent to be written stay parameters of their own: a struct of `&mut` would need ghost names in each clause.)
 fn hand_over(
     head: Head,
     held: &[u64],
@@ -99,12 +87,13 @@ fn hand_over(
     requires room { Room head (length workloads.old) (length outside.old) (length edges.old) (length counts.old) (length visits.old) (length constraints.old) (length colouring.old) }
     ensures { HandedOver (contents_held head held.now) workloads.old outside.old edges.old counts.old visits.old constraints.old colouring.old workloads.new outside.new edges.new counts.new visits.new constraints.new colouring.new }
 {
-    copy(workloads_in(held, head), workloads);
-    copy(outside_in(held, head), outside);
-    copy(edges_in(held, head), edges);
-    copy(counts_in(held, head), counts);
-    copy(visits_in(held, head), visits);
-    copy(constraints_in(held, head), constraints);
+    let lists = lists_in(held, head);
+    copy(lists.workloads, workloads);
+    copy(lists.outside, outside);
+    copy(lists.edges, edges);
+    copy(lists.counts, counts);
+    copy(lists.visits, visits);
+    copy(lists.constraints, constraints);
     copy(colouring_in(held, head), colouring);
 }
 
@@ -122,9 +111,8 @@ pub fn read_sheet(
     ensures { Promise (input sheet.now workloads.old outside.old edges.old counts.old visits.old constraints.old colouring.old) (left result workloads.new outside.new edges.new counts.new visits.new constraints.new colouring.new) }
 {
     let mut held = [0u64; MOST_HELD];
-    let refusal = gathering::read(sheet, &mut held);
-    if refusal.code != 0 {
-        return refused(refusal);
+    if let Err(refusal) = gathering::read(sheet, &mut held) {
+        return Read::from(refusal);
     }
     let head = head_in(Form::of(sheet), sheet);
     let room = room_right(
@@ -138,7 +126,7 @@ pub fn read_sheet(
         colouring.len(),
     );
     if !room {
-        return refused(Refusal { code: 39, place: 0 });
+        return Read::from(Refusal { code: 39, place: 0 });
     }
     hand_over(
         head,

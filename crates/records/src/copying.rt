@@ -1,6 +1,6 @@
 // The numbers of a list of records, in order, in an array.
 ghost use Rattle.std.specs.Prelude.{◌≡◌};
-ghost use Rattle.records.specs.Copied.{no_numbers, put_record, array_of};
+ghost use Rattle.records.specs.Copied.{put_record, array_of};
 
 use crate::Constraint;
 use terms::limits::{CONSTRAINT_LENGTH, MOST_CONSTRAINTS};
@@ -11,22 +11,10 @@ pub const MOST_COPIED: usize = MOST_CONSTRAINTS as usize + 1;
 // How many numbers an array has.
 pub const COPIED_LENGTH: usize = CONSTRAINT_LENGTH * MOST_COPIED;
 
-// An array with no record in it yet.
-fn no_numbers() -> [u64; COPIED_LENGTH]
-    ensures { result ≡ no_numbers }
-{
-    [0; COPIED_LENGTH]
-}
-
 // Puts the four numbers of record k, from 0, in their place, where there is room for them.
-fn put_record(
-    numbers: [u64; COPIED_LENGTH],
-    k: usize,
-    constraint: Constraint,
-) -> [u64; COPIED_LENGTH]
-    ensures { result ≡ put_record numbers k constraint }
+fn put_record(copied: &mut [u64; COPIED_LENGTH], k: usize, constraint: Constraint)
+    ensures { copied.new ≡ put_record copied.old k constraint }
 {
-    let mut copied = numbers;
     if k < MOST_COPIED {
         let at = CONSTRAINT_LENGTH * k;
         copied[at] = constraint.kind;
@@ -34,18 +22,15 @@ fn put_record(
         copied[at + 2] = constraint.limit;
         copied[at + 3] = constraint.weight;
     }
-    copied
 }
 
 // The numbers of the records, in order, as far as there is room for them.
 pub fn array_of(constraints: &[Constraint]) -> [u64; COPIED_LENGTH]
     ensures { result ≡ array_of constraints.now }
 {
-    let mut numbers = no_numbers();
-    let mut k = 0;
-    while k < constraints.len() {
-        numbers = put_record(numbers, k, constraints[k]);
-        k += 1;
+    let mut numbers = [0; COPIED_LENGTH];
+    for k in 0..constraints.len() {
+        put_record(&mut numbers, k, constraints[k]);
     }
     numbers
 }

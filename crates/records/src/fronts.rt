@@ -1,27 +1,16 @@
 // The call and writing, with the constraints as the first records of an array.
-ghost use Rattle.std.specs.Prelude.{◌≡◌, min};
 ghost use Rattle.call.specs.Promise as call;
 ghost use Rattle.form.specs.declared.Form.TheVariants.{First};
 ghost use Rattle.writing.specs.Promise as writing;
-ghost use Rattle.records.specs.Copied.{most_copied, front};
+ghost use Rattle.records.specs.Copied.{front};
 
 use crate::copying::{COPIED_LENGTH, MOST_COPIED};
 use call::Answer;
+use meaning::Lists;
 use terms::limits::CONSTRAINT_LENGTH;
 use writing::Written;
 
-// How many of `count` records an array has.
-fn copied_of(count: usize) -> usize
-    ensures { result ≡ min count most_copied }
-{
-    if count < MOST_COPIED {
-        count
-    } else {
-        MOST_COPIED
-    }
-}
-
-// The call on the first `count` records of the array, or on all that it has.
+// The call on the first `count` records of the array, or on all that it has. The other lists come one by one, since a plan's lists name its constraints as well, and these are in the array.
 pub fn judge_front(
     numbers: [u64; COPIED_LENGTH],
     count: usize,
@@ -40,22 +29,16 @@ pub fn judge_front(
 ) -> Answer
     ensures { call.Promise (call.input regions sectors workloads.now outside.now edges.now counts.now visits.now (front count numbers) colouring.old moves.now rows.old verdicts.old work.old) (call.left result colouring.new rows.new verdicts.new work.new) }
 {
-    let copied = copied_of(count);
-    call::judge(
-        regions,
+    let lists = Lists {
         sectors,
         workloads,
         outside,
         edges,
         counts,
         visits,
-        &numbers[..CONSTRAINT_LENGTH * copied],
-        colouring,
-        moves,
-        rows,
-        verdicts,
-        work,
-    )
+        constraints: &numbers[..CONSTRAINT_LENGTH * count.min(MOST_COPIED)],
+    };
+    call::judge(regions, lists, colouring, moves, rows, verdicts, work)
 }
 
 // Writing a first sheet with the first `count` records of the array, or with all that it has.
@@ -71,13 +54,12 @@ pub fn write_front(
 ) -> Written
     ensures { writing.Promise First (writing.plain regions sectors workloads.now edges.now (front count numbers) colouring.now) sheet.old (writing.left result sheet.new) }
 {
-    let copied = copied_of(count);
     writing::write(
         regions,
         sectors,
         workloads,
         edges,
-        &numbers[..CONSTRAINT_LENGTH * copied],
+        &numbers[..CONSTRAINT_LENGTH * count.min(MOST_COPIED)],
         colouring,
         sheet,
     )

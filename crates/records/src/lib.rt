@@ -4,7 +4,7 @@
 pub mod copying; // copying.rt: the numbers of the records, in order, in an array
 pub mod fronts; // fronts.rt: the call and writing on the first records of an array
 
-// What is asked of a plan, as four numbers: a record that is against its rules is refused as its numbers are.
+// What is asked of a plan, as four numbers: a record that is against its rules is refused as its numbers are. (`repr(C)`, since C lends such records.)
 #[repr(C)]
 #[derive(Clone, Copy)]
 pub struct Constraint {

@@ -6,3 +6,4 @@ pub mod FewerKinds
 pub mod Plain
 pub mod Renamed
 pub mod ButEight
+pub mod Checked

@@ -1,6 +1,6 @@
 -- What a table refuses, row by row, and what one that refuses nothing says of its rows.
 -- Assumes nothing.
-use Prim.Native.Nat.{ℕ, zero, suc, ◌/◌, ◌%◌, ◌≤◌, ◌<◌}
+use Prim.Native.Nat.{ℕ, zero, suc, ◌+◌, ◌/◌, ◌%◌, ◌≤◌, ◌<◌}
 use Rattle.std.proofs.Common.{zero-add, arith, ap, true≢false, eqb-true, leb→le, eqb→eq}
 use Rattle.std.specs.Prelude.{◌≡◌, Bool, not, ◌&&◌, List, [], ◌∷◌, ◌++◌, eqb, leb, length}
 use Rattle.std.proofs.Math.Path.{refl}
@@ -142,6 +142,19 @@ pub off_same : (k n : ℕ) (s t : ℕ → Bool) → ((j : ℕ) → s j ≡ t j) 
 unfolding off_from
 off_same k zero s t h = refl
 off_same k (suc n) s t h = rw (h k, off_same (suc k) n s t h)
+
+off_most : (right : ℕ → Bool) (k n : ℕ) → off_from k n right ≤ k + n
+unfolding off_from
+off_most right k zero = omega arith
+off_most right k (suc n) = go (right k) (off_most right (suc k) n)
+  where
+    go : (b : Bool) → off_from (suc k) n right ≤ suc k + n → cond b (off_from (suc k) n right) (suc k) ≤ k + suc n
+    go true h = omega arith
+    go false h = omega arith
+
+-- the first place where a test fails is that of an item
+pub first_off_most : (n : ℕ) (right : ℕ → Bool) → first_off n right ≤ n
+first_off_most n right = omega (arith, off_most right 0 n)
 
 -- ---- a row on each item that is not given
 

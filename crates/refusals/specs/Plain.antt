@@ -1,6 +1,6 @@
 -- A plan without outside areas is never refused for them.
 -- Assumes nothing.
-use Rattle.std.specs.Prelude.{ℕ, ◌<◌, ◌≡◌, false, not, List, [], ◌++◌, eqb, T, length}
+use Rattle.std.specs.Prelude.{ℕ, ◌<◌, ◌≡◌, false, not, List, [], ◌++◌, eqb, T, drop, length}
 use Rattle.std.proofs.Common.{◌∙◌, eq-eqb}
 use Rattle.std.proofs.Math.Path.{ap}
 use Rattle.std.proofs.Math.ListN.{take}
@@ -8,8 +8,8 @@ use Rattle.std.proofs.lemmas.List.{length-replicate, get_or-replicate}
 use Rattle.meaning.specs.Plan.{most_area, no_outside}
 use Rattle.refusals.specs.declared.Refusal.{Refusal}
 use Rattle.scans.specs.Items.{first_off, at_most}
-use Rattle.refusals.specs.Table.{none, whole, each, plan_table, plan_refusal}
-use Rattle.refusals.specs.Passed.{each_passed}
+use Rattle.refusals.specs.Table.{Row, none, whole, each, refusal, plan_table, plan_refusal}
+use Rattle.refusals.specs.Passed.{front_passed, each_passed}
 use Rattle.refusals.specs.Turn.{after, in_turn, after_passed, on_sizes, on_regions, from_edges, plan_in_turn}
 
 -- there is one for each region
@@ -22,6 +22,12 @@ no_outside_area R = each_passed (at_most most_area (no_outside R)) (length (no_o
   where
     right : (k : ℕ) → k < length (no_outside R) → T (at_most most_area (no_outside R) k)
     right k h = rw (get_or-replicate {A = ℕ} R k 0 0 (rw (length-replicate {A = ℕ} R 0) at h)) tt
+
+-- so the rows on them are not given, and what comes after them settles it
+pub no_outside_rows : (R : ℕ) (workloads : List ℕ) (more : List Row) → refusal more ≡ refusal (drop 2 (on_regions R workloads (no_outside R)) ++ more)
+unfolding plan_table
+no_outside_rows R workloads more =
+    front_passed (drop 2 (on_regions R workloads (no_outside R))) more (no_outside_long R, (no_outside_area R, tt))
 
 module _ (kinds R S : ℕ) (workloads edges counts visits constraints colouring : List ℕ) where
   -- the rows on such a plan but for those on its outside areas, in turn from none, give its refusal

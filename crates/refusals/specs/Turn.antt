@@ -1,4 +1,4 @@
--- The rows of a table taken in turn, as the code takes them, give the table's refusal.
+-- The rows of a table taken in turn give the table's refusal.
 -- Assumes nothing.
 use Rattle.std.specs.Prelude.{ℕ, ◌≡◌, refl, Bool, true, false, cond, not, ◌&&◌, List, [], ◌∷◌, ◌++◌, eqb, T, take, drop}
 use Rattle.std.proofs.Common.{sym, ◌∙◌, ap, ne_eqb}

@@ -2,6 +2,7 @@ pub mod ListSums
 pub mod Alone
 pub mod Growing
 pub mod Minimum
+pub mod Part
 pub mod Differing
 pub mod Writing
 pub mod Seeding

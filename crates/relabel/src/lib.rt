@@ -12,17 +12,14 @@ ghost use Rattle.relabel.specs.Lifting.{Leaving, Coming, labels_but};
 ghost use Rattle.relabel.specs.Recolouring.{Recolourable};
 ghost use Rattle.relabel.specs.Labelling.{Labellable};
 
-use lists::clear;
-use terms::{greater, lesser};
+use neighbours::Faces;
 
 pub mod component; // component.rt: components are searched and labelled
 
 // Brings the labels up to date, but for the region's own, once a region is lifted out of a sector, and returns how many are new. Where at most
 // one piece is left and the region was not the smallest of its component none is; otherwise the pieces are gone through.
 fn leave(
-    edges: &[u64],
-    start: &[u64],
-    near: &[u64],
+    faces: Faces,
     colouring: &mut [u64],
     labels: &mut [u64],
     queue: &mut [u64],
@@ -30,17 +27,15 @@ fn leave(
     sector: u64,
     pieces: u64,
 ) -> u64
-    requires { Leaving (length start.now - 1) (edges_of edges.now) start.now near.now colouring.old labels.old queue.old region sector pieces }
+    requires { Leaving (length faces.start.now - 1) (edges_of faces.edges.now) faces.start.now faces.near.now colouring.old labels.old queue.old region sector pieces }
     ensures colouring_unchanged { colouring.new ≡ colouring.old }
-    ensures labels_after { labels.new ≡ labels_but (edges_of edges.now) colouring.old region (at labels.old region) }
-    ensures value { result ≡ differing (length start.now - 1) labels.old labels.new }
+    ensures labels_after { labels.new ≡ labels_but (edges_of faces.entry.edges.now) colouring.old region (at labels.old region) }
+    ensures value { result ≡ differing (length faces.entry.start.now - 1) labels.old labels.new }
 {
-    if pieces <= 1 {
-        if labels[region - 1] != region as u64 {
-            return 0;
-        }
+    if pieces <= 1 && labels[region - 1] != region as u64 {
+        return 0;
     }
-    component::relabel_pieces(edges, start, near, colouring, labels, queue, region, sector)
+    component::relabel_pieces(faces, colouring, labels, queue, region, sector)
 }
 
 // Two numbers that labels lie between.
@@ -52,30 +47,25 @@ struct Range {
 
 // The smallest of a region and the labels of the components of a sector that share a face with it, and the largest of these labels, or 0 where there is none.
 fn labels_beside(
-    edges: &[u64],
-    start: &[u64],
-    near: &[u64],
+    faces: Faces,
     colouring: &[u64],
     labels: &[u64],
     region: usize,
     sector: u64,
 ) -> Range
-    requires { Rangeable (length start.now - 1) (edges_of edges.now) start.now near.now colouring.now labels.now region }
-    ensures { Ranged (edges_of edges.now) colouring.now labels.now region sector region result.low result.high }
+    requires { Rangeable (length faces.start.now - 1) (edges_of faces.edges.now) faces.start.now faces.near.now colouring.now labels.now region }
+    ensures { Ranged (edges_of faces.entry.edges.now) colouring.now labels.now region sector region result.low result.high }
 {
-    let last = start[region] as usize;
-    let mut j = start[region - 1] as usize;
+    let first = faces.start[region - 1] as usize;
+    let last = faces.start[region] as usize;
     let mut low = region as u64;
     let mut high = 0;
-    while j < last {
-        let z = near[j] as usize - 1;
+    for neighbour in &faces.near[first..last] {
+        let z = *neighbour as usize - 1;
         if colouring[z] == sector {
             let label = labels[z];
-            low = lesser(low, label);
-            high = greater(high, label);
-            j += 1;
-        } else {
-            j += 1;
+            low = low.min(label);
+            high = high.max(label);
         }
     }
     Range { low, high }
@@ -84,22 +74,20 @@ fn labels_beside(
 // Puts a region that is lifted out into a sector, brings the labels up to date, and returns how many are new. Where at most one component shares
 // a face with the region, and its label is below the region, only the region's own is new; otherwise its component is gone through.
 fn come(
-    edges: &[u64],
-    start: &[u64],
-    near: &[u64],
+    faces: Faces,
     colouring: &mut [u64],
     labels: &mut [u64],
     queue: &mut [u64],
     region: usize,
     sector: u64,
 ) -> u64
-    requires { Coming (length start.now - 1) (edges_of edges.now) start.now near.now colouring.old labels.old queue.old region sector }
+    requires { Coming (length faces.start.now - 1) (edges_of faces.edges.now) faces.start.now faces.near.now colouring.old labels.old queue.old region sector }
     ensures colouring_after { colouring.new ≡ recoloured colouring.old region sector }
-    ensures labels_after { labels.new ≡ labelsOf (edges_of edges.now) (recoloured colouring.old region sector) }
-    ensures value { result ≡ differing (length start.now - 1) labels.old labels.new }
+    ensures labels_after { labels.new ≡ labelsOf (edges_of faces.entry.edges.now) (recoloured colouring.old region sector) }
+    ensures value { result ≡ differing (length faces.entry.start.now - 1) labels.old labels.new }
 {
     let z = region - 1;
-    let beside = labels_beside(edges, start, near, colouring, labels, region, sector);
+    let beside = labels_beside(faces, colouring, labels, region, sector);
     let label = beside.low;
     colouring[z] = sector;
     if beside.high <= label {
@@ -107,7 +95,7 @@ fn come(
         labels[z] = label;
         return n;
     }
-    component::relabel_own(edges, start, near, colouring, labels, queue, region)
+    component::relabel_own(faces, colouring, labels, queue, region)
 }
 
 // How many labels are new, and how many pieces a region's component falls into without it.
@@ -119,53 +107,39 @@ pub struct Made {
 
 // Gives a region to another sector and brings the labels up to date. Returns how many labels are new, and the number of pieces.
 pub fn recolour(
-    edges: &[u64],
-    start: &[u64],
-    near: &[u64],
+    faces: Faces,
     colouring: &mut [u64],
     labels: &mut [u64],
     queue: &mut [u64],
     region: usize,
     sector: u64,
 ) -> Made
-    requires { Recolourable (length start.now - 1) (edges_of edges.now) start.now near.now colouring.old labels.old queue.old region sector }
+    requires { Recolourable (length faces.start.now - 1) (edges_of faces.edges.now) faces.start.now faces.near.now colouring.old labels.old queue.old region sector }
     ensures colouring_after { colouring.new ≡ recoloured colouring.old region sector }
-    ensures labels_after { labels.new ≡ labelsOf (edges_of edges.now) (recoloured colouring.old region sector) }
-    ensures relabelled_value { result.relabelled ≡ differing (length start.now - 1) labels.old labels.new }
-    ensures pieces_value { result.pieces ≡ pieces_of (edges_of edges.now) colouring.old region }
+    ensures labels_after { labels.new ≡ labelsOf (edges_of faces.entry.edges.now) (recoloured colouring.old region sector) }
+    ensures relabelled_value { result.relabelled ≡ differing (length faces.entry.start.now - 1) labels.old labels.new }
+    ensures pieces_value { result.pieces ≡ pieces_of (edges_of faces.entry.edges.now) colouring.old region }
 {
     let z = region - 1;
     let old = colouring[z];
-    let pieces = search::pieces_at(edges, start, near, colouring, queue, region);
+    let pieces = search::pieces_at(faces, colouring, queue, region);
     colouring[z] = 0;
-    let left = leave(
-        edges, start, near, colouring, labels, queue, region, old, pieces,
-    );
-    let relabelled = left + come(edges, start, near, colouring, labels, queue, region, sector);
+    let left = leave(faces, colouring, labels, queue, region, old, pieces);
+    let relabelled = left + come(faces, colouring, labels, queue, region, sector);
     Made { relabelled, pieces }
 }
 
 // Labels each region with the smallest that it is joined to, whatever the labels were: each component is gone through once.
-pub fn label_all(
-    edges: &[u64],
-    start: &[u64],
-    near: &[u64],
-    colouring: &mut [u64],
-    labels: &mut [u64],
-    queue: &mut [u64],
-)
-    requires { Labellable (length start.now - 1) (edges_of edges.now) start.now near.now colouring.old labels.old queue.old }
+// 0, which is no region, stands for a label that is still to come: the list is lent as numbers.
+pub fn label_all(faces: Faces, colouring: &mut [u64], labels: &mut [u64], queue: &mut [u64])
+    requires { Labellable (length faces.start.now - 1) (edges_of faces.edges.now) faces.start.now faces.near.now colouring.old labels.old queue.old }
     ensures colouring_unchanged { colouring.new ≡ colouring.old }
-    ensures labels_after { labels.new ≡ labelsOf (edges_of edges.now) colouring.old }
+    ensures labels_after { labels.new ≡ labelsOf (edges_of faces.entry.edges.now) colouring.old }
 {
-    clear(labels);
-    let mut v = 1;
-    while v < start.len() {
+    labels.fill(0);
+    for v in 1..faces.start.len() {
         if labels[v - 1] == 0 {
-            component::relabel_own(edges, start, near, colouring, labels, queue, v);
-            v += 1;
-        } else {
-            v += 1;
+            component::relabel_own(faces, colouring, labels, queue, v);
         }
     }
 }

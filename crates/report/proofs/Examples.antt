@@ -1,7 +1,6 @@
 -- Worked lines of the texts that the programs print.
 -- Assumes nothing.
 use Rattle.std.specs.Prelude.{◌≡◌, refl, [], ◌∷◌}
-use Prim.Native.String as string
 use Rattle.report.specs.Decimal.{decimal, spelled}
 use Rattle.report.specs.Text.{ascii, line, lines, number, refused_text, total_line, verdict_text}
 

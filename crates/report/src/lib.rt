@@ -36,6 +36,8 @@ const SPACE: u8 = b' ';
 
 const NEWLINE: u8 = b'\n';
 
+// Each of these functions is handed the place where it starts: a writer that kept it would have to hold the buffer's `&mut` in a struct, whose clauses say less plainly what was put where.
+
 // Puts a word down at `at`, and answers where it ends.
 fn put_word(text: &mut [u8], at: usize, word: &[u8]) -> usize
     requires { at + length word.now ≤ length text.old }
@@ -64,6 +66,7 @@ fn put_decimal(text: &mut [u8], at: usize, n: u64) -> usize
 }
 
 // Puts a number down in decimal and a byte after it, and answers where that ends.
+#[tactic(auto, unfolding(crate::specs::Text::number))]
 fn put_number(text: &mut [u8], at: usize, n: u64, after: u8) -> usize
     requires { at + length (number n after) ≤ length text.old }
     ensures { Placed text.old at (number n after) text.new result }
@@ -73,6 +76,7 @@ fn put_number(text: &mut [u8], at: usize, n: u64, after: u8) -> usize
 }
 
 // Puts the line of a constraint down, and answers where it ends.
+#[tactic(auto, unfolding(crate::specs::Text::line))]
 fn put_line(text: &mut [u8], at: usize, place: u64, kind: u64, holds: u64, violation: u64) -> usize
     requires { at + length (line place kind holds violation) ≤ length text.old }
     ensures { Placed text.old at (line place kind holds violation) text.new result }
@@ -98,6 +102,7 @@ fn put_line_at(text: &mut [u8], at: usize, constraints: &[u64], verdicts: &[u64]
 }
 
 // Puts the line of the total down, and answers where it ends.
+#[tactic(auto, unfolding(crate::specs::Text::total_line))]
 fn put_total(text: &mut [u8], at: usize, total: u64) -> usize
     requires { at + length (total_line total) ≤ length text.old }
     ensures { Placed text.old at (total_line total) text.new result }
@@ -114,17 +119,14 @@ pub fn put_verdicts(constraints: &[u64], verdicts: &[u64], total: u64, text: &mu
     ensures prefix_len { IsPrefixLen result text.new }
     ensures text_after { let t = verdict_text constraints.now verdicts.now total in (result ≡ length t) × (text.new ≡ t ++ drop (length t) text.old) }
 {
-    let n = constraints.len() / CONSTRAINT_LENGTH;
     let mut end = 0;
-    let mut k = 0;
-    while k < n {
+    for k in 0..constraints.len() / CONSTRAINT_LENGTH {
         end = put_line_at(text, end, constraints, verdicts, k);
-        k += 1;
     }
     put_total(text, end, total)
 }
 
-// Puts a refusal's code and place down at `at`, and answers where the text ends.
+// Puts a refusal's code and place down at `at`, and answers where the text ends. (They are two numbers, since this crate stands without `refusals`.)
 pub fn put_refused(text: &mut [u8], at: usize, code: u64, place: u64) -> usize
     requires { at + most_refused ≤ length text.old }
     ensures { Placed text.old at (refused_text code place) text.new result }
@@ -150,10 +152,8 @@ pub fn put_lines(text: &mut [u8], at: usize, numbers: &[u64]) -> usize
     ensures upper_bound { result ≤ at + most_number * length numbers.now }
 {
     let mut end = at;
-    let mut k = 0;
-    while k < numbers.len() {
-        end = put_number(text, end, numbers[k], NEWLINE);
-        k += 1;
+    for number in numbers {
+        end = put_number(text, end, *number, NEWLINE);
     }
     end
 }

@@ -14,7 +14,7 @@ use Rattle.lists.specs.Sums.{count}
 use Rattle.lists.specs.Counts.{counts_some, counts-none, count_parts, count_split}
 use Rattle.judgement.specs.Promise.{total_of}
 use Rattle.review.specs.declared.Extreme.{Extreme}
-use Rattle.review.specs.Review.{sound, zero_total, review_of}
+use Rattle.review.specs.Review.{sound, zero_total, shown, review_of}
 use Rattle.review.specs.Extremes.{total_at, SoundAt, Smallest, smallest_first}
 
 module _ (sheets : List (List ℕ)) where
@@ -42,7 +42,7 @@ module _ (sheets : List (List ℕ)) where
       go i l false e = refl
 
   -- some sheet has total zero exactly where there is a smallest total and it is zero
-  pub zero_smallest : 0 < (review_of sheets).zero ↔ (0 < (review_of sheets).sound) × ((review_of sheets).smallest.total ≡ 0)
+  pub zero_smallest : 0 < (review_of sheets).zero ↔ (0 < (review_of sheets).sound) × ((shown (review_of sheets).smallest).total ≡ 0)
   unfolding review_of
   zero_smallest = (
     λ h. let some : 0 < (review_of sheets).sound = omega (arith, h, zero-sound) in (some, least h (smallest_first sheets some)),

@@ -1,6 +1,6 @@
 -- What is printed of no input, of inputs that end badly, and of sheet A among others.
 -- Assumes nothing.
-use Rattle.std.specs.Prelude.{ℕ, suc, ◌≡◌, refl, cond, List, [], ◌∷◌, ◌++◌, eqb, length, replicate}
+use Rattle.std.specs.Prelude.{ℕ, suc, ◌≡◌, refl, cond, Some, List, [], ◌∷◌, ◌++◌, eqb, length, replicate}
 use Rattle.std.proofs.Common.{arith, ap₂, ◌∙◌}
 use Rattle.lists.specs.Sums.{Every}
 use Rattle.terms.specs.Distance.{stands, distance}
@@ -58,7 +58,7 @@ half_sheet = refl
 
 -- each number stands in its own line
 pub twelve_lines :
-    numbers (record { sound = 1; refused = 2; zero = 3; failed = 4 ∷ 5 ∷ 6 ∷ 7 ∷ 8 ∷ []; smallest = extreme 9 10; largest = extreme 11 12 })
+    numbers (record { sound = 1; refused = 2; zero = 3; failed = 4 ∷ 5 ∷ 6 ∷ 7 ∷ 8 ∷ []; smallest = Some (extreme 9 10); largest = Some (extreme 11 12) })
     ≡ 1 ∷ 2 ∷ 3 ∷ 4 ∷ 5 ∷ 6 ∷ 7 ∷ 8 ∷ 9 ∷ 10 ∷ 11 ∷ 12 ∷ []
 unfolding numbers
 twelve_lines = refl
@@ -97,7 +97,7 @@ one_more ss s r j e f = review_next ss s ∙ ap₂ (λ r j. after r (suc (length
 
 -- three are sound; sheet A's total of 15 is the smallest, first at place 4, and the largest is 53 at place 1
 pub worked_figures : review_of worked
-    ≡ record { sound = 3; refused = 2; zero = 0; failed = 0 ∷ 1 ∷ 0 ∷ 3 ∷ 1 ∷ []; smallest = extreme 15 4; largest = extreme 53 1 }
+    ≡ record { sound = 3; refused = 2; zero = 0; failed = 0 ∷ 1 ∷ 0 ∷ 3 ∷ 1 ∷ []; smallest = Some (extreme 15 4); largest = Some (extreme 53 1) }
 unfolding sheet_a flown_a edges_of visits_of flights_of constraints_of stands distance take_in take_every labels before stretches ncc ncc_all load whole outside_area border counts loads deviation connected bounded dwelling by_kind kinds.violation kinds.holds total verdict verdicts_of refused_for failing better extreme_from review_of with_failed with_refused with_sound
 worked_figures =
     let a = sheet_of First sheet_a in

@@ -1,8 +1,8 @@
 -- Document 02, C-22: what the smallest and the largest total are, and that their places are the first.
 -- Assumes nothing.
-use Rattle.std.specs.Prelude.{ℕ, suc, ◌-◌, ◌≤◌, ◌<◌, ◌≡◌, Bool, cond, ◌||◌, List, [], ◌∷◌, ◌++◌, ◌⊎◌, ◌↔◌, eqb, length, get_or}
+use Rattle.std.specs.Prelude.{ℕ, suc, ◌-◌, ◌≤◌, ◌<◌, ◌≡◌, Bool, cond, List, [], ◌∷◌, ◌++◌, ◌⊎◌, ◌↔◌, Option, None, Some, length, get_or}
 use Rattle.std.proofs.Math.Decide.{ℕ_discrete, dec_lt}
-use Rattle.std.proofs.Common.{arith, sym, ap, ◌∙◌, inl, inr, eqb-true, eq-eqb, ne_eqb, ltb-true, ltb-false, length-append}
+use Rattle.std.proofs.Common.{arith, sym, ap, ◌∙◌, inl, inr, eqb-true, eq-eqb, ltb-true, ltb-false, length-append}
 use Rattle.std.proofs.Math.Path.{refl}
 use Rattle.std.proofs.Math.Bool.{true, false}
 use Rattle.std.proofs.lemmas.Bool.{eqb-false}
@@ -13,7 +13,7 @@ use Rattle.lists.specs.Last.{by_last, count_no}
 use Rattle.lists.specs.Counts.{counts_some}
 use Rattle.judgement.specs.Promise.{code, total_of}
 use Rattle.review.specs.declared.Extreme.{Extreme}
-use Rattle.review.specs.Review.{sound, extreme, better, extreme_from, extreme_of, smaller, larger, review_of}
+use Rattle.review.specs.Review.{sound, extreme, shown, better, extreme_from, extreme_of, smaller, larger, review_of}
 use Rattle.review.specs.Next.{extreme-next}
 
 -- ---- what is meant
@@ -115,8 +115,8 @@ module _ {test : ℕ → ℕ → Bool} {asGood : ℕ → ℕ → Type 0} {ahead 
       rw (e, t)
 
   -- none is read soundly and there is no total, or there is the first
-  abbrev Found : List (List ℕ) → Extreme → Type 0
-  Found sheets x = ((count sheets sound ≡ 0) × (x ≡ extreme 0 0)) ⊎ First sheets x
+  abbrev Found : List (List ℕ) → Option Extreme → Type 0
+  Found sheets known = ((count sheets sound ≡ 0) × (known ≡ None)) ⊎ ((x : Extreme) × (known ≡ Some x) × First sheets x)
 
   module _ (ss : List (List ℕ)) (s : List ℕ) where
     -- one more that is read soundly and goes before all the others is the first
@@ -156,20 +156,19 @@ module _ {test : ℕ → ℕ → Bool} {asGood : ℕ → ℕ → Type 0} {ahead 
         first u l (inr e) = absurd (omega (arith, e.0, f.there.inside.high))
 
     -- what one more makes of what was found
-    found_more : {x : Extreme} → Found ss x → Found (ss ++ (s ∷ [])) (cond (sound s) (better test x (total_of s) (suc (length ss))) x)
+    found_more : {known : Option Extreme} → Found ss known → Found (ss ++ (s ∷ [])) (cond (sound s) (better test known (total_of s) (suc (length ss))) known)
     unfolding better
-    found_more {x} f = go (sound s) refl f
+    found_more {known} f = go (sound s) refl f
       where
-        next : (b : Bool) → test (total_of s) x.total ≡ b → code s ≡ 0 → First ss x → First (ss ++ (s ∷ [])) (cond b (extreme (total_of s) (suc (length ss))) x)
-        next true e z k = first_new z (λ u h. o.through (o.passed e) (k.best u h))
-        next false e z k = first_stays k (λ y. o.failed e)
+        next : (x : Extreme) (b : Bool) → test (total_of s) x.total ≡ b → code s ≡ 0 → First ss x → Found (ss ++ (s ∷ [])) (cond b (Some (extreme (total_of s) (suc (length ss)))) (Some x))
+        next x true e z k = inr (extreme (total_of s) (suc (length ss)), refl, first_new z (λ u h. o.through (o.passed e) (k.best u h)))
+        next x false e z k = inr (x, refl, first_stays k (λ y. o.failed e))
 
-        go : (b : Bool) → sound s ≡ b → Found ss x → Found (ss ++ (s ∷ [])) (cond b (cond (eqb x.place 0 || test (total_of s) x.total) (extreme (total_of s) (suc (length ss))) x) x)
-        go true e (inl n) = rw n.1 (inr (first_new (eqb-true _ 0 e) (λ u h. absurd (omega (arith, n.0, sound_some h)))))
-        go true e (inr k) =
-            let p = ne_eqb x.place 0 (λ z. omega (arith, z, k.there.inside.low)) in rw p (inr (next (test (total_of s) x.total) refl (eqb-true _ 0 e) k))
+        go : (b : Bool) → sound s ≡ b → Found ss known → Found (ss ++ (s ∷ [])) (cond b (better test known (total_of s) (suc (length ss))) known)
+        go true e (inl n) = rw n.1 (inr (extreme (total_of s) (suc (length ss)), refl, first_new (eqb-true _ 0 e) (λ u h. absurd (omega (arith, n.0, sound_some h)))))
+        go true e (inr k) = rw k.1 (next k.0 (test (total_of s) k.0.total) refl (eqb-true _ 0 e) k.2)
         go false e (inl n) = inl (count_no sound ss s e ∙ n.0, n.1)
-        go false e (inr k) = inr (first_stays k (λ z. absurd (eqb-false _ 0 e z)))
+        go false e (inr k) = inr (k.0, k.1, first_stays k.2 (λ z. absurd (eqb-false _ 0 e z)))
 
   -- what is found of all sheets
   found : (sheets : List (List ℕ)) → Found sheets (extreme_of test sheets)
@@ -177,28 +176,28 @@ module _ {test : ℕ → ℕ → Bool} {asGood : ℕ → ℕ → Type 0} {ahead 
   found sheets = by_last (λ ss. Found ss (extreme_of test ss)) (inl (refl, refl)) (λ ss s f. rw (extreme-next test ss s) (found_more ss s f)) sheets
 
   -- where some sheet is read soundly, the first
-  found_first : (sheets : List (List ℕ)) → 0 < count sheets sound → First sheets (extreme_of test sheets)
+  found_first : (sheets : List (List ℕ)) → 0 < count sheets sound → First sheets (shown (extreme_of test sheets))
   found_first sheets h = go (found sheets)
     where
-      go : Found sheets (extreme_of test sheets) → First sheets (extreme_of test sheets)
+      go : Found sheets (extreme_of test sheets) → First sheets (shown (extreme_of test sheets))
       go (inl n) = absurd (omega (arith, n.0))
-      go (inr f) = f
+      go (inr k) = rw k.1 k.2
 
   -- where none is, no total
-  found_none : (sheets : List (List ℕ)) → count sheets sound ≡ 0 → extreme_of test sheets ≡ extreme 0 0
+  found_none : (sheets : List (List ℕ)) → count sheets sound ≡ 0 → extreme_of test sheets ≡ None
   found_none sheets e = go (found sheets)
     where
-      go : Found sheets (extreme_of test sheets) → extreme_of test sheets ≡ extreme 0 0
+      go : Found sheets (extreme_of test sheets) → extreme_of test sheets ≡ None
       go (inl n) = n.1
-      go (inr f) = absurd (omega (arith, e, sound_some f.there))
+      go (inr k) = absurd (omega (arith, e, sound_some k.2.there))
 
-  -- and place 0 tells that
-  place_none : (sheets : List (List ℕ)) → (extreme_of test sheets).place ≡ 0 ↔ count sheets sound ≡ 0
-  place_none sheets = (λ e. go e (found sheets), λ n. ap (λ x. x.place) (found_none sheets n))
+  -- and the place 0 that is shown tells that
+  place_none : (sheets : List (List ℕ)) → (shown (extreme_of test sheets)).place ≡ 0 ↔ count sheets sound ≡ 0
+  place_none sheets = (λ e. go e (found sheets), λ n. ap (λ x. (shown x).place) (found_none sheets n))
     where
-      go : (extreme_of test sheets).place ≡ 0 → Found sheets (extreme_of test sheets) → count sheets sound ≡ 0
+      go : (shown (extreme_of test sheets)).place ≡ 0 → Found sheets (extreme_of test sheets) → count sheets sound ≡ 0
       go e (inl n) = n.0
-      go e (inr f) = absurd (omega (arith, e, f.there.inside.low))
+      go e (inr k) = absurd (omega (arith, rw k.1 at e, k.2.there.inside.low))
 
 -- ---- the smallest and the largest
 
@@ -228,26 +227,26 @@ by_larger =
 
 module _ (sheets : List (List ℕ)) where
   -- where some sheet is read soundly, the smallest total is that of one: at most that of each, and less than that of each earlier one
-  pub smallest_first : 0 < (review_of sheets).sound → Smallest sheets (review_of sheets).smallest
+  pub smallest_first : 0 < (review_of sheets).sound → Smallest sheets (shown (review_of sheets).smallest)
   unfolding review_of
   smallest_first = found_first by_smaller sheets
 
   -- and the largest likewise: at least that of each, and more than that of each earlier one
-  pub largest_first : 0 < (review_of sheets).sound → Largest sheets (review_of sheets).largest
+  pub largest_first : 0 < (review_of sheets).sound → Largest sheets (shown (review_of sheets).largest)
   unfolding review_of
   largest_first = found_first by_larger sheets
 
-  -- with none read soundly, both totals and places are 0
-  pub none-sound : (review_of sheets).sound ≡ 0 → ((review_of sheets).smallest ≡ extreme 0 0) × ((review_of sheets).largest ≡ extreme 0 0)
+  -- with none read soundly, there is neither, so that both totals and places are shown as 0
+  pub none-sound : (review_of sheets).sound ≡ 0 → ((review_of sheets).smallest ≡ None) × ((review_of sheets).largest ≡ None)
   unfolding review_of
   none-sound e = (found_none by_smaller sheets e, found_none by_larger sheets e)
 
-  -- a place is 0 then and only then
-  pub smallest_none : (review_of sheets).smallest.place ≡ 0 ↔ (review_of sheets).sound ≡ 0
+  -- a place is shown as 0 then and only then
+  pub smallest_none : (shown (review_of sheets).smallest).place ≡ 0 ↔ (review_of sheets).sound ≡ 0
   unfolding review_of
   smallest_none = place_none by_smaller sheets
 
-  pub largest_none : (review_of sheets).largest.place ≡ 0 ↔ (review_of sheets).sound ≡ 0
+  pub largest_none : (shown (review_of sheets).largest).place ≡ 0 ↔ (review_of sheets).sound ≡ 0
   unfolding review_of
   largest_none = place_none by_larger sheets
 

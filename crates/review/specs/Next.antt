@@ -1,6 +1,6 @@
 -- The figures after one more sheet, from those before it.
 -- Assumes nothing.
-use Rattle.std.specs.Prelude.{ℕ, suc, ◌+◌, ◌≡◌, Bool, List, [], ◌∷◌, ◌++◌, map, eqb, length}
+use Rattle.std.specs.Prelude.{ℕ, suc, ◌+◌, ◌≡◌, Bool, List, [], ◌∷◌, ◌++◌, Option, None, map, eqb, length}
 use Rattle.std.proofs.Common.{arith, sym, ◌∙◌, ne_eqb}
 use Rattle.std.proofs.Math.Path.{refl, ap}
 use Rattle.std.proofs.Math.Bool.{true, false, not, cond}
@@ -16,7 +16,7 @@ use Rattle.judging.specs.JudgementLaws.{judgement-refused, judgement-judged, jud
 use Rattle.judgement.specs.Promise.{code, total_of}
 use Rattle.review.specs.declared.Extreme.{Extreme}
 use Rattle.review.specs.declared.Review.{Review}
-use Rattle.review.specs.Review.{sound, zero_total, failing, failed_in, extreme, better, extreme_from, extreme_of, smaller, larger, review_of}
+use Rattle.review.specs.Review.{sound, zero_total, failing, failed_in, better, extreme_from, extreme_of, smaller, larger, review_of}
 
 -- what failed before, and what fails in one more sheet, for each kind
 unfoldable pub with_failed : List ℕ → List ℕ → List ℕ → List ℕ
@@ -76,7 +76,7 @@ refused-none_failed s n kind = rw (refused_bare s n)
 -- ---- one more sheet
 
 -- the first of some sheets and one more, from any place on
-extreme_end : (before : ℕ → ℕ → Bool) (known : Extreme) (place : ℕ) (ss : List (List ℕ)) (s : List ℕ) → let x = extreme_from before known place ss in
+extreme_end : (before : ℕ → ℕ → Bool) (known : Option Extreme) (place : ℕ) (ss : List (List ℕ)) (s : List ℕ) → let x = extreme_from before known place ss in
     extreme_from before known place (ss ++ (s ∷ [])) ≡ cond (sound s) (better before x (total_of s) (place + length ss)) x
 unfolding extreme_from
 extreme_end before known place [] s = let e : place + 0 ≡ place = omega arith in rw e
@@ -87,7 +87,7 @@ extreme_end before known place (x ∷ ss) s =
 -- and from place 1 on
 pub extreme-next : (before : ℕ → ℕ → Bool) (ss : List (List ℕ)) (s : List ℕ) → let x = extreme_of before ss in
     extreme_of before (ss ++ (s ∷ [])) ≡ cond (sound s) (better before x (total_of s) (suc (length ss))) x
-extreme-next before ss s = let e : suc (length ss) ≡ 1 + length ss = omega arith in rw e (extreme_end before (extreme 0 0) 1 ss s)
+extreme-next before ss s = let e : suc (length ss) ≡ 1 + length ss = omega arith in rw e (extreme_end before None 1 ss s)
 
 -- what fails of a kind in some sheets
 abbrev failed_over : List (List ℕ) → ℕ → ℕ

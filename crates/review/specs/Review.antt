@@ -1,6 +1,6 @@
 -- Document 02, C-22: the figures over many sheets.
 -- Assumes nothing.
-use Rattle.std.specs.Prelude.{ℕ, suc, ◌*◌, ◌/◌, Bool, cond, not, ◌&&◌, ◌||◌, List, [], ◌∷◌, map, eqb, ltb, length, get_or}
+use Rattle.std.specs.Prelude.{ℕ, suc, ◌*◌, ◌/◌, Bool, cond, not, ◌&&◌, List, [], ◌∷◌, Option, None, Some, unwrap_or, map, eqb, ltb, length, get_or}
 use Rattle.lists.specs.Sums.{from, up_to, sum, count}
 use Rattle.meaning.specs.Plan.{constraint_length, constraint_at, most_kind}
 use Rattle.meaning.specs.Moves.{verdict_length}
@@ -33,22 +33,27 @@ failed_in kind sheet = let j = judgement sheet in failing kind j.constraints j.v
 
 -- ---- the smallest and the largest total
 
--- a total and its place; both are 0 where there is none
+-- a total and its place
 abbrev pub extreme : ℕ → ℕ → Extreme
 extreme total place = record { total = total; place = place }
 
+-- what is shown of it: both are 0 where there is none
+abbrev pub shown : Option Extreme → Extreme
+shown known = unwrap_or known (extreme 0 0)
+
 -- a total at a place, where none is known yet or where it goes before the known one; else the known one, so that of equal totals the first stays
-unfoldable pub better : (ℕ → ℕ → Bool) → Extreme → ℕ → ℕ → Extreme
-better before known total place = cond (eqb known.place 0 || before total known.total) (extreme total place) known
+unfoldable pub better : (ℕ → ℕ → Bool) → Option Extreme → ℕ → ℕ → Option Extreme
+better before None total place = Some (extreme total place)
+better before (Some known) total place = cond (before total known.total) (Some (extreme total place)) (Some known)
 
 -- the first of what is known and of the sheets from a place on, whose total none goes before; a refused sheet has no total
-unfoldable pub extreme_from : (ℕ → ℕ → Bool) → Extreme → ℕ → List (List ℕ) → Extreme
+unfoldable pub extreme_from : (ℕ → ℕ → Bool) → Option Extreme → ℕ → List (List ℕ) → Option Extreme
 extreme_from before known place [] = known
 extreme_from before known place (s ∷ ss) = extreme_from before (cond (sound s) (better before known (total_of s) place) known) (suc place) ss
 
 -- that of all sheets, whose places are from 1
-abbrev pub extreme_of : (ℕ → ℕ → Bool) → List (List ℕ) → Extreme
-extreme_of before sheets = extreme_from before (extreme 0 0) 1 sheets
+abbrev pub extreme_of : (ℕ → ℕ → Bool) → List (List ℕ) → Option Extreme
+extreme_of before sheets = extreme_from before None 1 sheets
 
 -- the smallest goes before by being smaller, the largest by being larger
 abbrev pub smaller : ℕ → ℕ → Bool

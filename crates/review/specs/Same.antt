@@ -1,6 +1,6 @@
 -- Two lists of sheets that come to the same, place by place, have the same figures.
 -- Assumes nothing.
-use Rattle.std.specs.Prelude.{ℕ, suc, ◌≡◌, refl, Bool, not, cond, ◌&&◌, List}
+use Rattle.std.specs.Prelude.{ℕ, suc, ◌≡◌, refl, Bool, not, cond, ◌&&◌, Option, None, List}
 use Rattle.std.proofs.Common.{ap, ◌∙◌}
 use Rattle.std.proofs.Math.Dec.{eqb}
 use Rattle.lists.specs.Sums.{bit, sum}
@@ -9,7 +9,7 @@ use Rattle.lists.specs.Pairs.{Pairs, none, one}
 use Rattle.meaning.specs.Plan.{most_kind}
 use Rattle.judging.specs.Judgement.{Judgement, judgement}
 use Rattle.review.specs.declared.Extreme.{Extreme}
-use Rattle.review.specs.Review.{failing, failed_in, extreme, better, extreme_from, smaller, larger, review_of}
+use Rattle.review.specs.Review.{failing, failed_in, better, extreme_from, smaller, larger, review_of}
 use Rattle.review.specs.Stream.{stream_of, reviewed, printed_of}
 
 -- two sheets come to the same: refusal, constraints, verdicts and total
@@ -22,12 +22,12 @@ same_sum f none = refl
 same_sum f (one e p) = rw (e, same_sum f p)
 
 -- and so are the smallest and the largest total, with their places
-same-extreme : (before : ℕ → ℕ → Bool) (known : Extreme) (place : ℕ) {ss ts : List (List ℕ)} → Pairs SameJudged ss ts
+same-extreme : (before : ℕ → ℕ → Bool) (known : Option Extreme) (place : ℕ) {ss ts : List (List ℕ)} → Pairs SameJudged ss ts
     → extreme_from before known place ss ≡ extreme_from before known place ts
 unfolding extreme_from
 same-extreme before known place none = refl
 same-extreme before known place (one {x} {y} {xs} {ys} e p) =
-    let after : Judgement → Extreme = λ j. cond (eqb j.refusal.code 0) (better before known j.total place) known in
+    let after : Judgement → Option Extreme = λ j. cond (eqb j.refusal.code 0) (better before known j.total place) known in
     same-extreme before (after (judgement x)) (suc place) p ∙ ap (λ j. extreme_from before (after j) (suc place) ys) e
 
 module _ {ss ts : List (List ℕ)} (p : Pairs SameJudged ss ts) where
@@ -44,8 +44,8 @@ module _ {ss ts : List (List ℕ)} (p : Pairs SameJudged ss ts) where
         same_sum (λ j. bit (not (eqb j.refusal.code 0))) p,
         same_sum (λ j. bit (eqb j.refusal.code 0 && eqb j.total 0)) p,
         table_same most_kind (λ kind. sum ss (failed_in kind)) (λ kind. sum ts (failed_in kind)) (λ kind i. same_failed kind),
-        same-extreme smaller (extreme 0 0) 1 p,
-        same-extreme larger (extreme 0 0) 1 p,
+        same-extreme smaller None 1 p,
+        same-extreme larger None 1 p,
       )
 
 -- and where reading ends at the same place, so is what is printed

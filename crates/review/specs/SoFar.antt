@@ -4,7 +4,7 @@ use Prim.Native.Nat.{ℕ, suc, ◌+◌, ◌-◌, ◌*◌, ◌≤◌, ◌<◌}
 use Rattle.std.proofs.Math.Decide.{dec_lt}
 use Rattle.std.proofs.Math.Numerals.{add-one}
 use native.Mathlib.Omega.{arith}
-use Rattle.std.specs.Prelude.{◌≡◌, refl, length}
+use Rattle.std.specs.Prelude.{◌≡◌, refl, Option, None, Some, length}
 use Rattle.std.proofs.Common.{sym, ap, ◌∙◌, length-append}
 use mathlib.Core.List.{List, [], ◌∷◌, ◌++◌, append_assoc}
 use Rattle.blocks.specs.Block.{block_length}
@@ -72,36 +72,36 @@ module _ {place : ℕ} {r : Review} (s : SoFar place r) where
   -- ---- the ends
 
   -- what the figures come to, where nothing more is taken of the bytes that follow
-  ends : (rest : List ℕ) (torn : ℕ) → stream_from (suc most_sheets - place) place rest ≡ stop torn → record { review = r; torn = torn } ≡ reviewed (s.input ++ rest)
+  ends : (rest : List ℕ) (torn : Option ℕ) → stream_from (suc most_sheets - place) place rest ≡ stop torn → record { review = r; torn = torn } ≡ reviewed (s.input ++ rest)
   unfolding reviewed
   ends rest torn e =
       let of : Stream → Reviewed = λ t. record { review = review_of t.sheets; torn = t.torn } in
       rw s.figures (sym (ap of (s.goes_on rest ∙ rw e (followed-stop s.sheets torn))))
 
   -- all sheets are read that may be
-  pub ends_full : most_sheets < place → Answers (record { review = r; torn = 0 })
+  pub ends_full : most_sheets < place → Answers (record { review = r; torn = None })
   ends_full h =
       let e : suc most_sheets - place ≡ 0 = omega arith in
-      front s.input (λ rest. ends rest 0 (rw e (stream_full place rest)))
+      front s.input (λ rest. ends rest None (rw e (stream_full place rest)))
 
   -- no byte is read where a count is due
-  pub ends_well : (count : List ℕ) → announced_by count ≡ Nothing → Answers (record { review = r; torn = 0 })
-  ends_well count e = whole (s.input ++ count) (ends count 0 (stream_nothing (suc most_sheets - place) place count e))
+  pub ends_well : (count : List ℕ) → announced_by count ≡ Nothing → Answers (record { review = r; torn = None })
+  ends_well count e = whole (s.input ++ count) (ends count None (stream_nothing (suc most_sheets - place) place count e))
 
   module _ (p : place ≤ most_sheets) where
     one_more : suc most_sheets - place ≡ suc (most_sheets - place)
     one_more = omega arith
 
     -- a count that is not right
-    pub ends_count : (count : List ℕ) → announced_by count ≡ Wrong → Answers (record { review = r; torn = place })
+    pub ends_count : (count : List ℕ) → announced_by count ≡ Wrong → Answers (record { review = r; torn = Some place })
     ends_count count e = go (dec_lt (length count) count_length)
       where
-        go : Dec (length count < count_length) → Answers (record { review = r; torn = place })
-        go (yes k) = whole (s.input ++ count) (ends count place (rw one_more (stream_ended (most_sheets - place) place count e)))
+        go : Dec (length count < count_length) → Answers (record { review = r; torn = Some place })
+        go (yes k) = whole (s.input ++ count) (ends count (Some place) (rw one_more (stream_ended (most_sheets - place) place count e)))
         go (no k) =
             front (s.input ++ count)
-            (λ rest. rw (append_assoc s.input count rest) (ends (count ++ rest) place (rw one_more (stream_wrong (most_sheets - place) place count rest (omega arith) e))))
+            (λ rest. rw (append_assoc s.input count rest) (ends (count ++ rest) (Some place) (rw one_more (stream_wrong (most_sheets - place) place count rest (omega arith) e))))
 
     -- a right count, and fewer bytes than its sheet has
-    pub ends_cut : {count : List ℕ} {blocks : ℕ} → Counted count blocks → (sheet : List ℕ) → length sheet < block_length * blocks → Answers (record { review = r; torn = place })
-    ends_cut {count} c sheet k = whole (s.input ++ (count ++ sheet)) (ends (count ++ sheet) place (rw one_more (stream_cut (most_sheets - place) place c sheet k)))
+    pub ends_cut : {count : List ℕ} {blocks : ℕ} → Counted count blocks → (sheet : List ℕ) → length sheet < block_length * blocks → Answers (record { review = r; torn = Some place })
+    ends_cut {count} c sheet k = whole (s.input ++ (count ++ sheet)) (ends (count ++ sheet) (Some place) (rw one_more (stream_cut (most_sheets - place) place c sheet k)))

@@ -1,6 +1,6 @@
 -- Document 02, C-22: an input, sheet after sheet, each preceded by its block count; and what is printed of it.
 -- Assumes nothing.
-use Rattle.std.specs.Prelude.{ℕ, zero, suc, ◌+◌, ◌*◌, Bool, cond, ◌&&◌, List, [], ◌∷◌, ◌++◌, eqb, leb, length, take, drop}
+use Rattle.std.specs.Prelude.{ℕ, zero, suc, ◌+◌, ◌*◌, Bool, cond, ◌&&◌, Option, None, Some, List, [], ◌∷◌, ◌++◌, leb, length, take, drop}
 use Rattle.terms.specs.Plan.{within}
 use Rattle.packing.specs.Numbers.{val}
 use Rattle.packing.specs.Part.{part}
@@ -13,7 +13,7 @@ use Rattle.review.specs.declared.Announced.{Announced}
 use Rattle.review.specs.declared.Announced.TheVariants.{Nothing, Wrong, Blocks}
 use Rattle.review.specs.declared.Review.{Review}
 use Rattle.review.specs.declared.Reviewed.{Reviewed}
-use Rattle.review.specs.Review.{review_of}
+use Rattle.review.specs.Review.{shown, review_of}
 
 -- ---- what is read
 
@@ -46,23 +46,23 @@ announced_by (b ∷ bs) = cond (count_right (b ∷ bs)) (Blocks (said_by (b ∷ 
 unfoldable pub whole_sheet : List ℕ → Bool
 whole_sheet bytes = count_right bytes && leb (count_length + size_said bytes) (length bytes)
 
--- the sheets that are read, and the place of the one that 18 refuses, 0 where there is none
+-- the sheets that are read, and the place of the one that 18 refuses, where there is one
 pub record Stream : Type 0 where
   pub sheets : List (List ℕ)
-  pub torn : ℕ
+  pub torn : Option ℕ
 
 -- what is read of the bytes from a place on, where so many sheets are left to read
 unfoldable pub stream_from : ℕ → ℕ → List ℕ → Stream
 -- what follows the last is not read
-stream_from zero place bytes = record { sheets = []; torn = 0 }
+stream_from zero place bytes = record { sheets = []; torn = None }
 -- the input ends well before a count
-stream_from (suc left) place [] = record { sheets = []; torn = 0 }
+stream_from (suc left) place [] = record { sheets = []; torn = None }
 -- else a whole sheet comes, or 18 refuses it and reading stops
 stream_from (suc left) place (b ∷ bs) =
     let rest = drop count_length (b ∷ bs) in
     let size = size_said (b ∷ bs) in
     let later = stream_from left (suc place) (drop size rest) in
-    cond (whole_sheet (b ∷ bs)) (record { sheets = take size rest ∷ later.sheets; torn = later.torn }) (record { sheets = []; torn = place })
+    cond (whole_sheet (b ∷ bs)) (record { sheets = take size rest ∷ later.sheets; torn = later.torn }) (record { sheets = []; torn = Some place })
 
 -- what is read of an input: places are from 1
 abbrev pub stream_of : List ℕ → Stream
@@ -78,11 +78,16 @@ reviewed input = let s = stream_of input in record { review = review_of s.sheets
 unfoldable pub numbers : Review → List ℕ
 numbers r =
     r.sound ∷ r.refused ∷ r.zero
-    ∷ (r.failed ++ (r.smallest.total ∷ r.smallest.place ∷ r.largest.total ∷ r.largest.place ∷ []))
+    ∷ (r.failed ++ ((shown r.smallest).total ∷ (shown r.smallest).place ∷ (shown r.largest).total ∷ (shown r.largest).place ∷ []))
 
--- the figures, one number a line, and the line of a refusal by 18
+-- the line of a refusal by 18, where there is one
+abbrev pub torn_text : Option ℕ → List ℕ
+torn_text None = []
+torn_text (Some place) = refused_text 18 place
+
+-- the figures, one number a line, and the line of a refusal
 unfoldable pub review_text : Reviewed → List ℕ
-review_text r = number_lines (numbers r.review) ++ cond (eqb r.torn 0) [] (refused_text 18 r.torn)
+review_text r = number_lines (numbers r.review) ++ torn_text r.torn
 
 -- what is printed of an input
 abbrev pub printed_of : List ℕ → List ℕ

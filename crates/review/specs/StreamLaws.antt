@@ -1,6 +1,6 @@
 -- What one step takes of an input, what stops it, and that an input made of sheets is read as those.
 -- Assumes nothing.
-use Rattle.std.specs.Prelude.{ℕ, zero, suc, ◌+◌, ◌*◌, ◌/◌, ◌%◌, ◌-◌, ◌≤◌, ◌<◌, ◌≡◌, refl, Bool, true, false, cond, ◌&&◌, List, [], ◌∷◌, ◌++◌, leb, length, take, drop}
+use Rattle.std.specs.Prelude.{ℕ, zero, suc, ◌+◌, ◌*◌, ◌/◌, ◌%◌, ◌-◌, ◌≤◌, ◌<◌, ◌≡◌, refl, Bool, true, false, cond, ◌&&◌, Option, None, Some, List, [], ◌∷◌, ◌++◌, leb, length, take, drop}
 use Rattle.std.proofs.Common.{arith, ap, subst, ◌∙◌, append-nil, append_assoc, le-leb, leb→le, length-append, take_at, drop_at}
 use Rattle.std.proofs.Math.Bool.{and-false}
 use Rattle.std.proofs.lemmas.Bool.{lt-leb}
@@ -20,12 +20,12 @@ use Rattle.review.specs.Stream.{most_sheets, count_length, said_by, count_right,
 unfoldable pub followed : List (List ℕ) → Stream → Stream
 followed sheets later = record { sheets = sheets ++ later.sheets; torn = later.torn }
 
--- no sheet more: 18 refuses the one at this place, or none where it is 0
-abbrev pub stop : ℕ → Stream
+-- no sheet more: 18 refuses the one at this place, where there is one
+abbrev pub stop : Option ℕ → Stream
 stop torn = record { sheets = []; torn = torn }
 
 -- sheets, followed by nothing, are those sheets
-pub followed-stop : (sheets : List (List ℕ)) (torn : ℕ) → followed sheets (stop torn) ≡ record { sheets = sheets; torn = torn }
+pub followed-stop : (sheets : List (List ℕ)) (torn : Option ℕ) → followed sheets (stop torn) ≡ record { sheets = sheets; torn = torn }
 unfolding followed
 followed-stop sheets torn = rw (append-nil sheets)
 
@@ -112,17 +112,17 @@ whole-front count rest h = rw (right_front count rest h, said-front count rest h
 -- ---- one step
 
 -- where no byte is left, the input ends well
-stream_none : (left place : ℕ) → stream_from left place [] ≡ stop 0
+stream_none : (left place : ℕ) → stream_from left place [] ≡ stop None
 unfolding stream_from
 stream_none zero place = refl
 stream_none (suc left) place = refl
 
 -- so it does where nothing is announced
-pub stream_nothing : (left place : ℕ) (count : List ℕ) → announced_by count ≡ Nothing → stream_from left place count ≡ stop 0
+pub stream_nothing : (left place : ℕ) (count : List ℕ) → announced_by count ≡ Nothing → stream_from left place count ≡ stop None
 stream_nothing left place count e = rw (nothing_none count e) (stream_none left place)
 
 -- where no sheet is left to read, the bytes are not
-pub stream_full : (place : ℕ) (bytes : List ℕ) → stream_from 0 place bytes ≡ stop 0
+pub stream_full : (place : ℕ) (bytes : List ℕ) → stream_from 0 place bytes ≡ stop None
 unfolding stream_from
 stream_full place bytes = refl
 
@@ -135,7 +135,7 @@ stream_whole left place [] h e = absurd (omega arith)
 stream_whole left place (b ∷ bytes) h e = rw e
 
 -- and reading stops where none is there
-pub stream_torn : (left place : ℕ) (bytes : List ℕ) → 0 < length bytes → whole_sheet bytes ≡ false → stream_from (suc left) place bytes ≡ stop place
+pub stream_torn : (left place : ℕ) (bytes : List ℕ) → 0 < length bytes → whole_sheet bytes ≡ false → stream_from (suc left) place bytes ≡ stop (Some place)
 unfolding stream_from
 stream_torn left place [] h e = absurd (omega arith)
 stream_torn left place (b ∷ bytes) h e = rw e
@@ -158,14 +158,14 @@ stream_sheet left place {count} c sheet rest k =
     )
 
 -- a wrong count, and no more
-pub stream_ended : (left place : ℕ) (count : List ℕ) → announced_by count ≡ Wrong → stream_from (suc left) place count ≡ stop place
+pub stream_ended : (left place : ℕ) (count : List ℕ) → announced_by count ≡ Wrong → stream_from (suc left) place count ≡ stop (Some place)
 unfolding whole_sheet
 stream_ended left place count e = let w = wrong_some count e in stream_torn left place count w.0 (rw w.1)
 
 -- a wrong count that has both bytes, whatever follows it
 pub stream_wrong :
     (left place : ℕ) (count rest : List ℕ) → count_length ≤ length count → announced_by count ≡ Wrong
-    → stream_from (suc left) place (count ++ rest) ≡ stop place
+    → stream_from (suc left) place (count ++ rest) ≡ stop (Some place)
 stream_wrong left place count rest h e =
     let some : 0 < length (count ++ rest) = rw (length-append count rest) (omega arith) in
     stream_torn left place (count ++ rest) some (whole-front count rest h ∙ rw (wrong_some count e).1)
@@ -173,7 +173,7 @@ stream_wrong left place count rest h e =
 -- a right count, and too few bytes after it
 pub stream_cut :
     (left place : ℕ) {count : List ℕ} {blocks : ℕ} → Counted count blocks → (sheet : List ℕ) → length sheet < block_length * blocks
-    → stream_from (suc left) place (count ++ sheet) ≡ stop place
+    → stream_from (suc left) place (count ++ sheet) ≡ stop (Some place)
 stream_cut left place {count} c sheet k =
     let two : count_length ≤ length count = omega (arith, c.both_bytes) in
     let some : 0 < length (count ++ sheet) = rw (length-append count sheet) (omega arith) in
@@ -234,25 +234,25 @@ stream_written sheets a h rest =
     ap (λ n. stream_from n 1 (input_of sheets ++ rest)) e ∙ stream_input sheets a (most_sheets - length sheets) 1 rest ∙ rw f
 
 -- the sheets alone: they are read, and none is refused
-pub written-alone : (sheets : List (List ℕ)) → Every WholeBlocks sheets → length sheets ≤ 1_000 → stream_of (input_of sheets) ≡ record { sheets = sheets; torn = 0 }
+pub written-alone : (sheets : List (List ℕ)) → Every WholeBlocks sheets → length sheets ≤ 1_000 → stream_of (input_of sheets) ≡ record { sheets = sheets; torn = None }
 written-alone sheets a h =
     rw (← append-nil (input_of sheets))
-    (stream_written sheets a h [] ∙ rw (stream_none (most_sheets - length sheets) (suc (length sheets))) (followed-stop sheets 0))
+    (stream_written sheets a h [] ∙ rw (stream_none (most_sheets - length sheets) (suc (length sheets))) (followed-stop sheets None))
 
 -- as many as are read: the same, whatever follows them
 pub written_full :
     (sheets : List (List ℕ)) → Every WholeBlocks sheets → length sheets ≡ 1_000 → (rest : List ℕ)
-    → stream_of (input_of sheets ++ rest) ≡ record { sheets = sheets; torn = 0 }
+    → stream_of (input_of sheets ++ rest) ≡ record { sheets = sheets; torn = None }
 written_full sheets a h rest =
     let e : most_sheets - length sheets ≡ 0 = omega arith in
-    stream_written sheets a (omega arith) rest ∙ rw (e, stream_full (suc (length sheets)) rest) (followed-stop sheets 0)
+    stream_written sheets a (omega arith) rest ∙ rw (e, stream_full (suc (length sheets)) rest) (followed-stop sheets None)
 
 -- fewer, and after them bytes that are no whole sheet: 18 refuses the next place
 pub written_torn :
     (sheets : List (List ℕ)) → Every WholeBlocks sheets → length sheets < 1_000 → (rest : List ℕ) → 0 < length rest → whole_sheet rest ≡ false
-    → stream_of (input_of sheets ++ rest) ≡ record { sheets = sheets; torn = suc (length sheets) }
+    → stream_of (input_of sheets ++ rest) ≡ record { sheets = sheets; torn = Some (suc (length sheets)) }
 written_torn sheets a h rest n w =
     let left = most_sheets - suc (length sheets) in
     let e : most_sheets - length sheets ≡ suc left = omega arith in
     stream_written sheets a (omega arith) rest
-    ∙ rw (e, stream_torn left (suc (length sheets)) rest n w) (followed-stop sheets (suc (length sheets)))
+    ∙ rw (e, stream_torn left (suc (length sheets)) rest n w) (followed-stop sheets (Some (suc (length sheets))))

@@ -1,19 +1,17 @@
 // The figures over many sheets, one more sheet at a time, and the text that the program `figures` prints of them.
 #![tactic(auto)]
 
-ghost use Rattle.std.specs.Prelude.{◌≡◌, [], ◌++◌, ◌+◌, ◌≤◌, ◌<◌, length, drop};
+ghost use Rattle.std.specs.Prelude.{◌≡◌, ℕ, Bool, [], ◌++◌, ◌+◌, ◌≤◌, ◌<◌, length, drop};
 ghost use Rattle.std.specs.Counts.{IsPrefixLen};
 ghost use Rattle.report.specs.Placed.{Placed};
 ghost use Rattle.report.specs.Text.{number_lines, most_refused};
-ghost use Rattle.review.specs.Review.{better, smaller, larger, review_of};
+ghost use Rattle.review.specs.Review.{better, shown, review_of};
 ghost use Rattle.review.specs.Stream.{most_sheets, announced_by, numbers, review_text, most_review_text};
 ghost use Rattle.review.specs.Next.{with_refused, with_sound, next, Taken};
 
 use by_kind::with_failed;
 use form::Form;
-use judge::bit_of;
 use judging::judge_sheet;
-use packing::read_number;
 use report::{MOST_NUMBER, MOST_REFUSED, put_lines, put_refused};
 use terms::in_limits;
 use terms::limits::{CONSTRAINT_LENGTH, DWELL, MOST_CONSTRAINTS, VERDICT_LENGTH};
@@ -35,38 +33,26 @@ pub const MOST_TEXT: usize = (7 + KINDS) * MOST_NUMBER + MOST_REFUSED;
 // The code of a block count that is not right, and of an input that ends inside a count or a sheet.
 const TORN: u64 = 18;
 
-// A smallest or largest total, and the place of the first sheet that has it; place 0 where there is none.
+// A smallest or largest total, and the place of the first sheet that has it.
 #[derive(Clone, Copy)]
 pub struct Extreme {
     pub total: u64,
     pub place: u64,
 }
 
-impl Extreme {
-    // The smallest total, once one more is known.
-    fn or_smaller(self, total: u64, place: u64) -> Extreme
-        ensures { result ≡ better smaller self total place }
-    {
-        if self.place == 0 {
-            return Extreme { total, place };
-        }
-        if total < self.total {
-            return Extreme { total, place };
-        }
-        self
-    }
-
-    // The largest total, once one more is known.
-    fn or_larger(self, total: u64, place: u64) -> Extreme
-        ensures { result ≡ better larger self total place }
-    {
-        if self.place == 0 {
-            return Extreme { total, place };
-        }
-        if total > self.total {
-            return Extreme { total, place };
-        }
-        self
+// The known one, or this total at this place where none is known or where it goes before the known total.
+fn better<F: Fn(u64, u64) -> bool>(
+    known: Option<Extreme>,
+    total: u64,
+    place: u64,
+    goes_before: F,
+) -> Option<Extreme>
+    requires { F.IsAlwaysCallable goes_before }
+    ensures { (before : ℕ → ℕ → Bool) → ((x y : ℕ) (b : Bool) → F.post goes_before x y b → b ≡ before x y) → result ≡ better before known total place }
+{
+    match known {
+        Some(first) if !goes_before(total, first.total) => known,
+        _ => Some(Extreme { total, place }),
     }
 }
 
@@ -77,8 +63,8 @@ pub struct Review {
     pub refused: u64,
     pub zero: u64,
     pub failed: [u64; KINDS],
-    pub smallest: Extreme,
-    pub largest: Extreme,
+    pub smallest: Option<Extreme>,
+    pub largest: Option<Extreme>,
 }
 
 impl Review {
@@ -86,14 +72,13 @@ impl Review {
     pub fn none() -> Review
         ensures { result ≡ review_of [] }
     {
-        let no_total = Extreme { total: 0, place: 0 };
         Review {
             sound: 0,
             refused: 0,
             zero: 0,
             failed: [0; KINDS],
-            smallest: no_total,
-            largest: no_total,
+            smallest: None,
+            largest: None,
         }
     }
 
@@ -107,24 +92,16 @@ impl Review {
     }
 
     // With one more sheet, which is read soundly and has this total.
-    fn with_sound(self, failed: [u64; KINDS], total: u64, place: u64) -> Review
+    fn with_sound(mut self, failed: [u64; KINDS], total: u64, place: u64) -> Review
         requires { (self.sound < most_sheets) × (self.zero < most_sheets) }
         ensures { result ≡ with_sound self failed total place }
     {
-        let sound = self.sound + 1;
-        let zero = self.zero + bit_of(total == 0);
-        let known_smallest = self.smallest;
-        let known_largest = self.largest;
-        let smallest = known_smallest.or_smaller(total, place);
-        let largest = known_largest.or_larger(total, place);
-        Review {
-            sound,
-            refused: self.refused,
-            zero,
-            failed,
-            smallest,
-            largest,
-        }
+        self.sound += 1;
+        self.zero += u64::from(total == 0);
+        self.failed = failed;
+        self.smallest = better(self.smallest, total, place, |new, known| new < known);
+        self.largest = better(self.largest, total, place, |new, known| new > known);
+        self
     }
 
     // With the sheet at this place, which comes after all that are counted.
@@ -134,20 +111,19 @@ impl Review {
     {
         let mut constraints = [0u64; CONSTRAINT_LENGTH * MOST_CONSTRAINTS as usize];
         let mut verdicts = [0u64; VERDICT_LENGTH * MOST_CONSTRAINTS as usize];
-        let judged = judge_sheet(sheet, &mut constraints, &mut verdicts);
-        if judged.code != 0 {
-            return self.with_refused();
+        match judge_sheet(sheet, &mut constraints, &mut verdicts) {
+            Err(_) => self.with_refused(),
+            Ok(judged) => {
+                let count = judged.constraints as usize;
+                let known = self.failed;
+                let failed = with_failed(
+                    known,
+                    &constraints[..CONSTRAINT_LENGTH * count],
+                    &verdicts[..VERDICT_LENGTH * count],
+                );
+                self.with_sound(failed, judged.total, place)
+            }
         }
-        let count = judged.constraints as usize;
-        let constraint_numbers = CONSTRAINT_LENGTH * count;
-        let verdict_numbers = VERDICT_LENGTH * count;
-        let known = self.failed;
-        let failed = with_failed(
-            known,
-            &constraints[..constraint_numbers],
-            &verdicts[..verdict_numbers],
-        );
-        self.with_sound(failed, judged.total, place)
     }
 }
 
@@ -164,25 +140,33 @@ impl Announced {
     pub fn by(count: &[u8]) -> Announced
         ensures { result ≡ announced_by count.now }
     {
-        if count.len() == 0 {
-            return Announced::Nothing;
+        match count {
+            [] => Announced::Nothing,
+            [low, high, ..] => {
+                let blocks = u64::from(u16::from_le_bytes([*low, *high]));
+                if in_limits(1, blocks, Form::Second.most_blocks()) {
+                    Announced::Blocks(blocks as usize)
+                } else {
+                    Announced::Wrong
+                }
+            }
+            _ => Announced::Wrong,
         }
-        if count.len() < COUNT_LENGTH {
-            return Announced::Wrong;
-        }
-        let blocks = read_number(count, 0, COUNT_LENGTH);
-        if !in_limits(1, blocks, Form::Second.most_blocks()) {
-            return Announced::Wrong;
-        }
-        Announced::Blocks(blocks as usize)
     }
 }
 
-// What an input comes to: the figures over its sheets, and the place of the one that 18 refuses, 0 where there is none.
+// What an input comes to: the figures over its sheets, and the place of the one that 18 refuses, where there is one.
 #[derive(Drop)]
 pub struct Reviewed {
     pub review: Review,
-    pub torn: u64,
+    pub torn: Option<u64>,
+}
+
+// What is shown of an extreme: both numbers are 0 where there is none.
+fn shown(known: Option<Extreme>) -> Extreme
+    ensures { result ≡ shown known }
+{
+    known.unwrap_or(Extreme { total: 0, place: 0 })
 }
 
 // Puts the figures down at the buffer's start, one number a line, and answers where the last line ends; a refusal has room there.
@@ -193,8 +177,8 @@ fn put_figures(review: Review, text: &mut [u8]) -> usize
 {
     let counts = [review.sound, review.refused, review.zero];
     let failed = review.failed;
-    let smallest = review.smallest;
-    let largest = review.largest;
+    let smallest = shown(review.smallest);
+    let largest = shown(review.largest);
     let totals = [smallest.total, smallest.place, largest.total, largest.place];
     let past_counts = put_lines(text, 0, &counts);
     let past_failed = put_lines(text, past_counts, &failed);
@@ -209,8 +193,8 @@ pub fn put_reviewed(reviewed: Reviewed, text: &mut [u8]) -> usize
 {
     let torn = reviewed.torn;
     let end = put_figures(reviewed.review, text);
-    if torn == 0 {
-        return end;
+    match torn {
+        None => end,
+        Some(place) => put_refused(text, end, TORN, place),
     }
-    put_refused(text, end, TORN, torn)
 }

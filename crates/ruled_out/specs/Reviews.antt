@@ -7,7 +7,7 @@ use Rattle.judging.specs.Judgement.{Judgement, refused_for}
 use Rattle.review.specs.declared.Announced.{Announced}
 use Rattle.review.specs.declared.Announced.TheVariants.{Nothing, Blocks}
 use Rattle.review.specs.declared.Review.{Review}
-use Rattle.review.specs.Review.{extreme_from, review_of}
+use Rattle.review.specs.Review.{shown, extreme_from, review_of}
 use Rattle.review.specs.Next.{with_refused, next, next-refused, review_next}
 use Rattle.review.specs.Stream.{announced_by, printed_of}
 use Rattle.review.specs.StreamLaws.{nothing_none, blocks_counted}
@@ -18,9 +18,9 @@ use Rattle.ruled_out.specs.Bytes.{bytes_a}
 
 module _ {r : Review} (p : r ≡ review_of []) where
   -- over no sheet no place has the smallest total
-  none_has_place : r.smallest.place ≡ 1 → ⊥
+  none_has_place : (shown r.smallest).place ≡ 1 → ⊥
   unfolding extreme_from review_of
-  none_has_place e = omega (arith, e, ap (λ (r : Review). r.smallest.place) p)
+  none_has_place e = omega (arith, e, ap (λ (r : Review). (shown r.smallest).place) p)
 
   -- and no total is zero
   none_has_total : r.zero ≡ 1 → ⊥
@@ -41,9 +41,9 @@ module _ (r q : Review) (p : q ≡ next r 2 zeros) where
   refused_as_zero e = omega (arith, e, ap (λ (r : Review). r.zero) all_but_one)
 
   -- nor does it take the smallest total
-  refused_as_smallest : r.smallest.place ≡ 1 → q.smallest.place ≡ 2 → ⊥
+  refused_as_smallest : (shown r.smallest).place ≡ 1 → (shown q.smallest).place ≡ 2 → ⊥
   unfolding with_refused
-  refused_as_smallest f e = omega (arith, e, f, ap (λ (r : Review). r.smallest.place) all_but_one)
+  refused_as_smallest f e = omega (arith, e, f, ap (λ (r : Review). (shown r.smallest).place) all_but_one)
 
 module _ (r q : Review) (f : r ≡ review_of first_four) (p : q ≡ next r 5 bytes_a) where
   -- with sheet A again they are the figures over all five
@@ -51,12 +51,12 @@ module _ (r q : Review) (f : r ≡ review_of first_four) (p : q ≡ next r 5 byt
   five = p ∙ ap (λ (r : Review). next r 5 bytes_a) f ∙ sym (review_next first_four bytes_a)
 
   -- of two that have the smallest total it is not the later
-  smallest_later : q.smallest.place ≡ 5 → ⊥
-  smallest_later e = omega (arith, e, ap (λ (r : Review). r.smallest.place) (five ∙ worked_figures))
+  smallest_later : (shown q.smallest).place ≡ 5 → ⊥
+  smallest_later e = omega (arith, e, ap (λ (r : Review). (shown r.smallest).place) (five ∙ worked_figures))
 
   -- and a place counts the refused sheets
-  place_among_sound : q.smallest.place ≡ 2 → ⊥
-  place_among_sound e = omega (arith, e, ap (λ (r : Review). r.smallest.place) (five ∙ worked_figures))
+  place_among_sound : (shown q.smallest).place ≡ 2 → ⊥
+  place_among_sound e = omega (arith, e, ap (λ (r : Review). (shown r.smallest).place) (five ∙ worked_figures))
 
 -- ---- `by`
 

@@ -1,4 +1,4 @@
-// A sound sheet from one whose colouring is damaged.
+// A sound sheet from one whose colouring is damaged. (Form, sheet, head and what is held are parameters of their own, as in the crates below and in the spec's `HasBlocks` and `Opened`.)
 #![tactic(auto)]
 
 ghost use Rattle.std.specs.Prelude.{◌≡◌, ◌≤◌, length};
@@ -13,10 +13,10 @@ ghost use Rattle.salvage.specs.Promise.{refused_answer, salvaged_sheet, left, Pr
 ghost use Rattle.salvage.specs.Others.{Others};
 ghost use Rattle.salvage.specs.Steps.{Mendable};
 
-use form::sections::colouring_first;
+use form::sections::{Kind, colouring_first};
 use form::{Form, Head};
 use holding::MOST_HELD;
-use holding::places::{colouring_in, edges_in};
+use holding::places::{colouring_in, lists_in};
 use mending::{count_lost, list_lost, mend};
 use others::hold_others;
 use packing::copy_to;
@@ -24,12 +24,12 @@ use refusals::Refusal;
 use sheet::opening::head_in;
 use surviving::keep_survivors;
 use terms::limits::MOST_REGIONS;
-use writing::sections::write_colouring;
+use writing::sections::write_kind;
 
 pub mod others; // others.rt: all of a sheet but its colouring
 pub mod surviving; // surviving.rt: what survives of its colouring
 
-// What salvaging answers: a refusal's code and place, or code 0 with how many regions were lost.
+// What salvaging answers (a struct with a code, since C gets it): a refusal's code and place, or code 0 with how many regions were lost.
 #[repr(C)]
 #[derive(Drop)]
 pub struct Salvaged {
@@ -39,13 +39,15 @@ pub struct Salvaged {
 }
 
 // What a refused salvaging answers.
-fn refused(refusal: Refusal) -> Salvaged
-    ensures { result ≡ refused_answer refusal }
-{
-    Salvaged {
-        code: refusal.code,
-        place: refusal.place,
-        lost: 0,
+impl From<Refusal> for Salvaged {
+    ghost from_gives = { λ refusal salvaged. salvaged ≡ refused_answer refusal };
+
+    fn from(refusal: Refusal) -> Salvaged {
+        Salvaged {
+            code: refusal.code,
+            place: refusal.place,
+            lost: 0,
+        }
     }
 }
 
@@ -56,7 +58,8 @@ fn write_anew(salvaged: &mut [u8], form: Form, sheet: &[u8], head: Head, colouri
     ensures { salvaged.new ≡ over (recoloured_sheet form sheet.now colouring.now) salvaged.old }
 {
     copy_to(salvaged, 0, sheet);
-    write_colouring(form, salvaged, colouring_first(form, head), head, colouring);
+    let first = colouring_first(form, head);
+    write_kind(form, salvaged, head, Kind::Colouring, first, colouring);
 }
 
 // Puts the salvaged sheet down at the front of the lent bytes: each lost region is given a sector.
@@ -110,7 +113,7 @@ fn salvage_held(
     ensures { Promise sheet.now salvaged.old list.old (left result salvaged.new list.new) }
 {
     if salvaged.len() < sheet.len() {
-        return refused(Refusal { code: 40, place: 0 });
+        return Salvaged::from(Refusal { code: 40, place: 0 });
     }
     let head = head_in(form, sheet);
     let regions = head.regions as usize;
@@ -119,7 +122,7 @@ fn salvage_held(
     keep_survivors(form, sheet, head, colouring, &mut room[..regions]);
     let lost = count_lost(&room[..regions]);
     if list.len() < lost {
-        return refused(Refusal { code: 17, place: 0 });
+        return Salvaged::from(Refusal { code: 17, place: 0 });
     }
     put_down(
         salvaged,
@@ -127,7 +130,7 @@ fn salvage_held(
         form,
         sheet,
         head,
-        edges_in(held, head),
+        lists_in(held, head).edges,
         &room[..regions],
     );
     Salvaged {
@@ -143,9 +146,8 @@ pub fn salvage_sheet(sheet: &[u8], salvaged: &mut [u8], list: &mut [u64]) -> Sal
 {
     let form = Form::of(sheet);
     let mut held = [0u64; MOST_HELD];
-    let refusal = hold_others(form, sheet, &mut held);
-    if refusal.code != 0 {
-        return refused(refusal);
+    if let Err(refusal) = hold_others(form, sheet, &mut held) {
+        return Salvaged::from(refusal);
     }
     salvage_held(salvaged, list, form, sheet, &held)
 }

@@ -16,8 +16,8 @@ fn block_sound(form: Form, sheet: &[u8], head: Head, number: usize) -> bool
     requires { HasBlocks form sheet.now head × (number < length (dues form head)) }
     ensures { result ≡ sound_at form head sheet.now number }
 {
-    let due = due_of(form, head, number);
-    block_fault(sheet, &form.letters(), number, due.kind, due.used) == 0
+    let due = due_of(form, head, number).unwrap();
+    block_fault(sheet, &form.letters(), number, due).is_ok()
 }
 
 // Of the colouring's first and last block, whether the one that holds the sector of region i + 1 is sound.
@@ -27,14 +27,11 @@ fn of_block(i: usize, first: bool, last: bool) -> bool
     if i < SECTOR_SIZE { first } else { last }
 }
 
-// The sector of a region where it survived, and 0 where it is lost.
+// The sector of a region where it survived, and 0 where it is lost, as `mending` takes a colouring.
 fn kept(sound: bool, sector: u64, sectors: u64) -> u64
     ensures { result ≡ cond (sound && within 1 sector sectors) sector 0 }
 {
-    if !sound {
-        return 0;
-    }
-    if in_limits(1, sector, sectors) {
+    if sound && in_limits(1, sector, sectors) {
         sector
     } else {
         0
@@ -55,9 +52,7 @@ pub fn keep_survivors(
 {
     let first = block_sound(form, sheet, head, colouring_first(form, head));
     let last = block_sound(form, sheet, head, count_first(form, head) - 1);
-    let mut i = 0;
-    while i < surviving.len() {
+    for i in 0..surviving.len() {
         surviving[i] = kept(of_block(i, first, last), colouring[i], head.sectors);
-        i += 1;
     }
 }

@@ -1,6 +1,6 @@
 -- Document 01, "The call and what it refuses", and document 02, C-11 and C-12: when an item of a flat list is right, and the first that is not.
 -- Assumes nothing.
-use Rattle.std.specs.Prelude.{ℕ, zero, suc, ◌-◌, ◌/◌, ◌%◌, Bool, true, cond, ◌&&◌, ◌||◌, List, [], ◌∷◌, eqb, leb, ltb, length, get_or}
+use Rattle.std.specs.Prelude.{ℕ, zero, suc, ◌+◌, ◌-◌, ◌/◌, ◌%◌, Bool, true, cond, ◌&&◌, ◌||◌, Option, None, Some, List, [], ◌∷◌, eqb, leb, ltb, length, get_or}
 use Rattle.terms.specs.Plan.{within}
 use Rattle.meaning.specs.Plan.{Edge, Visit, edge_at, flights_of, constraint_at, most_area, most_visits, most_dwell, most_limit, most_weight}
 
@@ -15,6 +15,11 @@ off_from k (suc n) right = cond (right k) (off_from (suc k) n right) (suc k)
 
 abbrev pub first_off : ℕ → (ℕ → Bool) → ℕ
 first_off n right = off_from 0 n right
+
+-- the place, from 1, of the item at an index; 0 where there is none
+abbrev pub place_of : Option ℕ → ℕ
+place_of None = 0
+place_of (Some k) = k + 1
 
 -- ---- the items
 

@@ -4,6 +4,7 @@
 ghost use Rattle.call.specs.Promise.{Promise, input, left};
 
 use call::Answer;
+use meaning::Lists;
 
 pub mod by_records; // by_records.rt: the calls that take the constraints as a lent list of records
 pub mod by_sheet; // by_sheet.rt: the calls on the bytes of a sheet, each of which answers one number
@@ -28,8 +29,7 @@ pub extern "C" fn sctr_call(
 ) -> Answer
     ensures { Promise (input regions sectors workloads.now outside.now edges.now counts.now visits.now constraints.now colouring.old moves.now rows.old verdicts.old work.old) (left result colouring.new rows.new verdicts.new work.new) }
 {
-    call::judge(
-        regions,
+    let lists = Lists {
         sectors,
         workloads,
         outside,
@@ -37,10 +37,6 @@ pub extern "C" fn sctr_call(
         counts,
         visits,
         constraints,
-        colouring,
-        moves,
-        rows,
-        verdicts,
-        work,
-    )
+    };
+    call::judge(regions, lists, colouring, moves, rows, verdicts, work)
 }

@@ -5,6 +5,7 @@ ghost use Rattle.writing.specs.Promise as writing;
 ghost use Rattle.conversion.specs.Promise as conversion;
 ghost use Rattle.salvage.specs.Promise as salvage;
 
+use meaning::Lists;
 use reading::Read;
 use salvage::Salvaged;
 use writing::Written;
@@ -75,8 +76,7 @@ pub extern "C" fn sctr_write_second(
 ) -> Written
     ensures { writing.Promise Second (writing.contents regions sectors workloads.now outside.now edges.now counts.now visits.now constraints.now colouring.now) sheet.old (writing.left result sheet.new) }
 {
-    writing::write_second(
-        regions,
+    let lists = Lists {
         sectors,
         workloads,
         outside,
@@ -84,9 +84,8 @@ pub extern "C" fn sctr_write_second(
         counts,
         visits,
         constraints,
-        colouring,
-        sheet,
-    )
+    };
+    writing::write_second(regions, lists, colouring, sheet)
 }
 
 // Converts a first sheet into a second one in the lent bytes; a converting that is refused answers why and changes nothing.

@@ -11,6 +11,12 @@ use Rattle.meaning.specs.Plan.{Edge}
 use Rattle.meaning.specs.Faces.{Shares}
 use Rattle.neighbours.specs.Net.{Net, net_in}
 use Rattle.search.specs.Scan.{Row, net_row}
+use Rattle.std.specs.Ordering.{nat_cmp, ord_max}
+use Rattle.std.proofs.lemmas.Grind.{common_steps}
+
+-- the larger of two numbers, as a program takes it
+pub larger : (a b : ℕ) → ord_max nat_cmp a b ≡ max a b
+larger a b = grind (arith, common_steps)
 
 -- what it starts from: the array of neighbours, a sector and a label for each region, and a region
 pub record Rangeable (R : ℕ) (edges : List Edge) (start nb col ls : List ℕ) (v : ℕ) : Type 0 where

@@ -18,12 +18,14 @@ ghost use Rattle.search.specs.Weighing.{Weighable};
 ghost use Rattle.search.specs.Remembered.{Remembered, Raisable};
 ghost use Rattle.search.specs.Looking.{Lifting, Looking, Meets, Looked};
 
-use terms::{greater, lesser};
+use neighbours::Faces;
 
 // What stands in the place of the sector of a region that a search has reached: larger than every sector.
+// The colouring is lent as numbers, so a search marks it by one, as it lifts a region out by 0.
 pub const MARK: u64 = 255;
 
 // What a version is multiplied by, to stand with a number of pieces in one number: more than any number of pieces.
+// The memory that is lent has one number for each region, so the two share it.
 const STAMP: u64 = 1024;
 
 // The mark where a region shows the sector, and otherwise what it shows.
@@ -38,101 +40,95 @@ fn hit(shown: u64, sector: u64) -> usize
     ensures value { result ≡ bit (eqb shown sector) }
     ensures upper_bound { result ≤ 1 }
 {
-    if shown == sector { 1 } else { 0 }
+    usize::from(shown == sector)
 }
 
-// Marks the neighbours of a region that show the sector and adds them to the queue, whose new end it returns.
+// Marks the neighbours of a region that show the sector and adds them to the queue, whose new end it returns: the queue's room is lent whole and only
+// a part of it is used, so the end goes beside it.
+// Each neighbour is written past the end, and only one that shows the sector moves the end, so that the loop has no branch.
+// By place, as the facts of a search count places among all neighbours.
 pub fn expand(
-    edges: &[u64],
-    start: &[u64],
-    near: &[u64],
+    faces: Faces,
     colouring: &mut [u64],
     queue: &mut [u64],
     sector: u64,
     region: usize,
     end: usize,
 ) -> usize
-    requires { Expandable (length start.now - 1) (edges_of edges.now) start.now near.now sector colouring.old queue.old end region }
-    ensures { Expanded (length start.now - 1) (edges_of edges.now) sector colouring.old queue.old end region colouring.new queue.new result }
+    requires { Expandable (length faces.start.now - 1) (edges_of faces.edges.now) faces.start.now faces.near.now sector colouring.old queue.old end region }
+    ensures { Expanded (length faces.entry.start.now - 1) (edges_of faces.entry.edges.now) sector colouring.old queue.old end region colouring.new queue.new result }
 {
-    let last = start[region] as usize;
-    let mut j = start[region - 1] as usize;
+    let first = faces.start[region - 1] as usize;
+    let last = faces.start[region] as usize;
     let mut e = end;
-    while j < last {
-        let neighbour = near[j];
+    for j in first..last {
+        let neighbour = faces.near[j];
         let z = neighbour as usize - 1;
         let shown = colouring[z];
         queue[e] = neighbour;
         colouring[z] = masked(shown, sector);
         e += hit(shown, sector);
-        j += 1;
     }
     e
 }
 
-// Gives the marked regions, which are those of the queue, their sector back.
+// Gives the marked regions, which are those of the queue up to its end, their sector back: the queue stays whole, since its room is a part of what a search keeps.
 pub fn restore(colouring: &mut [u64], queue: &[u64], sector: u64, end: usize)
     requires { Flood (length colouring.old) sector colouring.old queue.now end }
     ensures { colouring.new ≡ unmask sector colouring.old }
 {
-    let mut k = 0;
-    while k < end {
-        let z = queue[k] as usize - 1;
+    for region in &queue[..end] {
+        let z = *region as usize - 1;
         colouring[z] = sector;
-        k += 1;
     }
 }
 
 // The first place of a part of a row whose neighbour shows the sector, or the part's end.
+// A `for` with a return in it is slower: a look takes 3 to 6 in a hundred longer.
 fn skip(near: &[u64], colouring: &[u64], sector: u64, first: usize, end: usize) -> usize
     requires { Span (length colouring.now) near.now first end }
     ensures { Scan near.now colouring.now sector first end result }
 {
     let mut i = first;
-    while i < end {
-        let z = near[i] as usize - 1;
-        if colouring[z] == sector {
-            return i;
-        }
+    while i < end && colouring[near[i] as usize - 1] != sector {
         i += 1;
     }
     i
 }
 
 // How many components of a sector share a face with a region: from each neighbour that shows the sector its component is searched, until none shows it.
+// No loop over a range: a turn takes either the next of the queue, which grows, or the next of the row.
 fn count_beside(
-    edges: &[u64],
-    start: &[u64],
-    near: &[u64],
+    faces: Faces,
     colouring: &mut [u64],
     queue: &mut [u64],
     region: usize,
     sector: u64,
 ) -> u64
-    requires { Counting (length start.now - 1) (edges_of edges.now) start.now near.now colouring.old queue.old region sector }
-    ensures value { result ≡ beside (edges_of edges.now) colouring.old region sector }
+    requires { Counting (length faces.start.now - 1) (edges_of faces.edges.now) faces.start.now faces.near.now colouring.old queue.old region sector }
+    ensures value { result ≡ beside (edges_of faces.entry.edges.now) colouring.old region sector }
     ensures colouring_unchanged { colouring.new ≡ colouring.old }
 {
-    let last = start[region] as usize;
-    let first = start[region - 1] as usize;
+    let first = faces.start[region - 1] as usize;
+    let last = faces.start[region] as usize;
     let mut n = 0;
     let mut h = 0;
     let mut e = 0;
-    let mut i = skip(near, colouring, sector, first, last);
+    let mut i = skip(faces.near, colouring, sector, first, last);
     while i < last {
         if h < e {
             let reached = queue[h] as usize;
             h += 1;
-            e = expand(edges, start, near, colouring, queue, sector, reached, e);
-            i = skip(near, colouring, sector, i, last);
+            e = expand(faces, colouring, queue, sector, reached, e);
+            i = skip(faces.near, colouring, sector, i, last);
         } else {
-            let found = near[i];
+            let found = faces.near[i];
             let z = found as usize - 1;
             colouring[z] = MARK;
             queue[e] = found;
             e += 1;
             n += 1;
-            i = skip(near, colouring, sector, i + 1, last);
+            i = skip(faces.near, colouring, sector, i + 1, last);
         }
     }
     restore(colouring, queue, sector, e);
@@ -140,33 +136,31 @@ fn count_beside(
 }
 
 // How many components of a sector share a face with a region, by the labels.
+// A loop beside that of `expand`, which marks neighbours and not labels: a closure for what is marked would take a longer contract than the loop.
 fn touching(
-    edges: &[u64],
-    start: &[u64],
-    near: &[u64],
+    faces: Faces,
     labels: &[u64],
     colouring: &mut [u64],
     queue: &mut [u64],
     region: usize,
     sector: u64,
 ) -> usize
-    requires counting { Counting (length start.now - 1) (edges_of edges.now) start.now near.now colouring.old queue.old region sector }
-    requires labels_value { labels.now ≡ labelsOf (edges_of edges.now) colouring.old }
-    ensures value { result ≡ beside (edges_of edges.now) colouring.old region sector }
+    requires counting { Counting (length faces.start.now - 1) (edges_of faces.edges.now) faces.start.now faces.near.now colouring.old queue.old region sector }
+    requires labels_value { labels.now ≡ labelsOf (edges_of faces.edges.now) colouring.old }
+    ensures value { result ≡ beside (edges_of faces.entry.edges.now) colouring.old region sector }
     ensures colouring_unchanged { colouring.new ≡ colouring.old }
 {
-    let last = start[region] as usize;
-    let mut j = start[region - 1] as usize;
+    let first = faces.start[region - 1] as usize;
+    let last = faces.start[region] as usize;
     let mut e = 0;
-    while j < last {
-        let w = near[j] as usize - 1;
+    for j in first..last {
+        let w = faces.near[j] as usize - 1;
         let label = labels[w];
         let z = label as usize - 1;
         let shown = colouring[z];
         queue[e] = label;
         colouring[z] = masked(shown, sector);
         e += hit(shown, sector);
-        j += 1;
     }
     restore(colouring, queue, sector, e);
     e
@@ -190,7 +184,8 @@ fn part(shown: u64, sector: u64, number: u64) -> u64
     number * same(shown, sector)
 }
 
-// The areas of a region's edges to its own sector and to another.
+// The areas of a region's edges to its own sector and to another. `Seen` and `Met` have the two beside the rest, and no `Areas` in them: their readers
+// take one number at a time.
 #[derive(Drop)]
 struct Areas {
     here: u64,
@@ -198,38 +193,28 @@ struct Areas {
 }
 
 // Adds up the areas of a region's edges to two sectors.
-fn areas_of(
-    edges: &[u64],
-    start: &[u64],
-    near: &[u64],
-    areas: &[u64],
-    colouring: &[u64],
-    region: usize,
-    own: u64,
-    sector: u64,
-) -> Areas
-    requires weighable { Weighable (length start.now - 1) (edges_of edges.now) start.now near.now areas.now colouring.now region }
-    requires comparable { Comparable (length start.now - 1) colouring.now own sector }
-    ensures here_value { result.here ≡ area_to (edges_of edges.now) colouring.now region own }
-    ensures there_value { result.there ≡ area_to (edges_of edges.now) colouring.now region sector }
+fn areas_of(faces: Faces, colouring: &[u64], region: usize, own: u64, sector: u64) -> Areas
+    requires weighable { Weighable (length faces.start.now - 1) (edges_of faces.edges.now) faces.start.now faces.near.now faces.areas.now colouring.now region }
+    requires comparable { Comparable (length faces.start.now - 1) colouring.now own sector }
+    ensures here_value { result.here ≡ area_to (edges_of faces.entry.edges.now) colouring.now region own }
+    ensures there_value { result.there ≡ area_to (edges_of faces.entry.edges.now) colouring.now region sector }
 {
-    let last = start[region] as usize;
-    let mut j = start[region - 1] as usize;
+    let first = faces.start[region - 1] as usize;
+    let last = faces.start[region] as usize;
     let mut here = 0;
     let mut there = 0;
-    while j < last {
-        let z = near[j] as usize - 1;
-        let area = areas[j];
+    for j in first..last {
+        let z = faces.near[j] as usize - 1;
+        let area = faces.areas[j];
         let shown = colouring[z];
         here += part(shown, own, area);
         there += part(shown, sector, area);
-        j += 1;
     }
     Areas { here, there }
 }
 
 // What a region's row shows: the areas of its edges to its own sector and to another, and the smallest and the largest label of its neighbours in
-// the other; where it has none there, the number of regions and 0.
+// the other; where it has none there, the number of regions and 0, with which a loop without a branch begins.
 #[derive(Drop)]
 struct Seen {
     here: u64,
@@ -240,40 +225,36 @@ struct Seen {
 
 // Goes through a region's row once, for the areas of its edges to two sectors and for the labels of its neighbours in the second.
 fn survey(
-    edges: &[u64],
-    start: &[u64],
-    near: &[u64],
-    areas: &[u64],
+    faces: Faces,
     labels: &[u64],
     colouring: &[u64],
     region: usize,
     own: u64,
     sector: u64,
 ) -> Seen
-    requires weighable { Weighable (length start.now - 1) (edges_of edges.now) start.now near.now areas.now colouring.now region }
-    requires comparable { Comparable (length start.now - 1) colouring.now own sector }
-    requires labels_value { labels.now ≡ labelsOf (edges_of edges.now) colouring.now }
-    ensures here_value { result.here ≡ area_to (edges_of edges.now) colouring.now region own }
-    ensures there_value { result.there ≡ area_to (edges_of edges.now) colouring.now region sector }
-    ensures ranged { Ranged (edges_of edges.now) colouring.now labels.now region sector (length colouring.now) result.low result.high }
+    requires weighable { Weighable (length faces.start.now - 1) (edges_of faces.edges.now) faces.start.now faces.near.now faces.areas.now colouring.now region }
+    requires comparable { Comparable (length faces.start.now - 1) colouring.now own sector }
+    requires labels_value { labels.now ≡ labelsOf (edges_of faces.edges.now) colouring.now }
+    ensures here_value { result.here ≡ area_to (edges_of faces.entry.edges.now) colouring.now region own }
+    ensures there_value { result.there ≡ area_to (edges_of faces.entry.edges.now) colouring.now region sector }
+    ensures ranged { Ranged (edges_of faces.entry.edges.now) colouring.now labels.now region sector (length colouring.now) result.low result.high }
 {
-    let last = start[region] as usize;
+    let first = faces.start[region - 1] as usize;
+    let last = faces.start[region] as usize;
     let top = colouring.len() as u64;
-    let mut j = start[region - 1] as usize;
     let mut here = 0;
     let mut there = 0;
     let mut low = top;
     let mut high = 0;
-    while j < last {
-        let z = near[j] as usize - 1;
-        let area = areas[j];
+    for j in first..last {
+        let z = faces.near[j] as usize - 1;
+        let area = faces.areas[j];
         let shown = colouring[z];
         let label = labels[z];
         here += part(shown, own, area);
         there += part(shown, sector, area);
-        low = lesser(low, top - part(shown, sector, top - label));
-        high = greater(high, part(shown, sector, label));
-        j += 1;
+        low = low.min(top - part(shown, sector, top - label));
+        high = high.max(part(shown, sector, label));
     }
     Seen {
         here,
@@ -293,49 +274,33 @@ fn part_elsewhere(shown: u64, sector: u64, area: u64) -> u64
 }
 
 // Adds up the areas of a region's edges that lead to another sector than its own.
-pub fn border_at(
-    edges: &[u64],
-    start: &[u64],
-    near: &[u64],
-    areas: &[u64],
-    colouring: &[u64],
-    region: usize,
-    own: u64,
-) -> u64
-    requires weighable { Weighable (length start.now - 1) (edges_of edges.now) start.now near.now areas.now colouring.now region }
-    requires comparable { Comparable (length start.now - 1) colouring.now own own }
-    ensures { result ≡ area_of (edges_of edges.now) (leads_to (λ w. not (eqb (at colouring.now w) own)) region) }
+pub fn border_at(faces: Faces, colouring: &[u64], region: usize, own: u64) -> u64
+    requires weighable { Weighable (length faces.start.now - 1) (edges_of faces.edges.now) faces.start.now faces.near.now faces.areas.now colouring.now region }
+    requires comparable { Comparable (length faces.start.now - 1) colouring.now own own }
+    ensures { result ≡ area_of (edges_of faces.entry.edges.now) (leads_to (λ w. not (eqb (at colouring.now w) own)) region) }
 {
-    let last = start[region] as usize;
-    let mut j = start[region - 1] as usize;
+    let first = faces.start[region - 1] as usize;
+    let last = faces.start[region] as usize;
     let mut sum = 0;
-    while j < last {
-        let z = near[j] as usize - 1;
-        let area = areas[j];
+    for j in first..last {
+        let z = faces.near[j] as usize - 1;
+        let area = faces.areas[j];
         let shown = colouring[z];
         sum += part_elsewhere(shown, own, area);
-        j += 1;
     }
     sum
 }
 
 // How many pieces the component of a region falls into without it.
-pub fn pieces_at(
-    edges: &[u64],
-    start: &[u64],
-    near: &[u64],
-    colouring: &mut [u64],
-    queue: &mut [u64],
-    region: usize,
-) -> u64
-    requires { Lifting (length start.now - 1) (edges_of edges.now) start.now near.now colouring.old queue.old region }
-    ensures value { result ≡ pieces (edges_of edges.now) colouring.old region }
+pub fn pieces_at(faces: Faces, colouring: &mut [u64], queue: &mut [u64], region: usize) -> u64
+    requires { Lifting (length faces.start.now - 1) (edges_of faces.edges.now) faces.start.now faces.near.now colouring.old queue.old region }
+    ensures value { result ≡ pieces (edges_of faces.entry.edges.now) colouring.old region }
     ensures colouring_unchanged { colouring.new ≡ colouring.old }
 {
     let z = region - 1;
     let own = colouring[z];
     colouring[z] = 0;
-    let left = count_beside(edges, start, near, colouring, queue, region, own);
+    let left = count_beside(faces, colouring, queue, region, own);
     colouring[z] = own;
     left
 }
@@ -343,9 +308,7 @@ pub fn pieces_at(
 // How many pieces the component of a region falls into without it: searched for once, and remembered as long as its sector's version stands,
 // with one more than that version, so that zeros remember nothing.
 fn pieces_of(
-    edges: &[u64],
-    start: &[u64],
-    near: &[u64],
+    faces: Faces,
     colouring: &mut [u64],
     queue: &mut [u64],
     known: &mut [u64],
@@ -353,13 +316,13 @@ fn pieces_of(
     clock: u64,
     region: usize,
 ) -> u64
-    requires lifting { Lifting (length start.now - 1) (edges_of edges.now) start.now near.now colouring.old queue.old region }
-    requires remembered { Remembered (length start.now - 1) sectors (edges_of edges.now) colouring.old clock known.old }
-    ensures value { result ≡ pieces (edges_of edges.now) colouring.old region }
+    requires lifting { Lifting (length faces.start.now - 1) (edges_of faces.edges.now) faces.start.now faces.near.now colouring.old queue.old region }
+    requires remembered { Remembered (length faces.start.now - 1) sectors (edges_of faces.edges.now) colouring.old clock known.old }
+    ensures value { result ≡ pieces (edges_of faces.entry.edges.now) colouring.old region }
     ensures colouring_unchanged { colouring.new ≡ colouring.old }
-    ensures remembered_2 { Remembered (length start.now - 1) sectors (edges_of edges.now) colouring.old clock known.new }
+    ensures remembered_2 { Remembered (length faces.entry.start.now - 1) sectors (edges_of faces.entry.edges.now) colouring.old clock known.new }
 {
-    let regions = start.len() - 1;
+    let regions = faces.start.len() - 1;
     let z = region - 1;
     let own = colouring[z] as usize;
     let version = known[regions + own - 1] + 1;
@@ -367,7 +330,7 @@ fn pieces_of(
     if kept / STAMP == version {
         return kept % STAMP;
     }
-    let left = pieces_at(edges, start, near, colouring, queue, region);
+    let left = pieces_at(faces, colouring, queue, region);
     known[z] = version * STAMP + left;
     left
 }
@@ -392,33 +355,28 @@ pub struct Met {
 
 // What a region meets where it is given to a sector, by the labels, which are counted only where its neighbours there have more than one.
 pub fn meet(
-    edges: &[u64],
-    start: &[u64],
-    near: &[u64],
-    areas: &[u64],
+    faces: Faces,
     labels: &[u64],
     colouring: &mut [u64],
     queue: &mut [u64],
     region: usize,
     sector: u64,
 ) -> Met
-    requires looking { Looking (length start.now - 1) (edges_of edges.now) start.now near.now areas.now colouring.old queue.old region sector }
-    requires labels_value { labels.now ≡ labelsOf (edges_of edges.now) colouring.old }
-    ensures meets { Meets (edges_of edges.now) colouring.old region sector result }
+    requires looking { Looking (length faces.start.now - 1) (edges_of faces.edges.now) faces.start.now faces.near.now faces.areas.now colouring.old queue.old region sector }
+    requires labels_value { labels.now ≡ labelsOf (edges_of faces.edges.now) colouring.old }
+    ensures meets { Meets (edges_of faces.entry.edges.now) colouring.old region sector result }
     ensures colouring_unchanged { colouring.new ≡ colouring.old }
 {
     let own = colouring[region - 1];
-    let seen = survey(
-        edges, start, near, areas, labels, colouring, region, own, sector,
-    );
+    let seen = survey(faces, labels, colouring, region, own, sector);
     if seen.high <= seen.low {
         return Met {
-            touching: lesser(seen.high, 1),
+            touching: seen.high.min(1),
             here: seen.here,
             there: seen.there,
         };
     }
-    let joined = touching(edges, start, near, labels, colouring, queue, region, sector);
+    let joined = touching(faces, labels, colouring, queue, region, sector);
     Met {
         touching: joined as u64,
         here: seen.here,
@@ -426,28 +384,26 @@ pub fn meet(
     }
 }
 
-// What a region meets where it is given to a sector, by a search of the sector's components.
+// What a region meets where it is given to a sector, by a search of the sector's components. It shares no step with `meet`, which goes by the labels:
+// an `Option` of them would be tested at each look.
 fn meet_anew(
-    edges: &[u64],
-    start: &[u64],
-    near: &[u64],
-    areas: &[u64],
+    faces: Faces,
     colouring: &mut [u64],
     queue: &mut [u64],
     region: usize,
     sector: u64,
 ) -> Met
-    requires { Looking (length start.now - 1) (edges_of edges.now) start.now near.now areas.now colouring.old queue.old region sector }
-    ensures meets { Meets (edges_of edges.now) colouring.old region sector result }
+    requires { Looking (length faces.start.now - 1) (edges_of faces.edges.now) faces.start.now faces.near.now faces.areas.now colouring.old queue.old region sector }
+    ensures meets { Meets (edges_of faces.entry.edges.now) colouring.old region sector result }
     ensures colouring_unchanged { colouring.new ≡ colouring.old }
 {
     let own = colouring[region - 1];
-    let joined = count_beside(edges, start, near, colouring, queue, region, sector);
-    let faces = areas_of(edges, start, near, areas, colouring, region, own, sector);
+    let joined = count_beside(faces, colouring, queue, region, sector);
+    let sums = areas_of(faces, colouring, region, own, sector);
     Met {
         touching: joined,
-        here: faces.here,
-        there: faces.there,
+        here: sums.here,
+        there: sums.there,
     }
 }
 
@@ -460,10 +416,7 @@ pub struct Look {
 
 // Looks at giving a region to a sector, by the labels and by what is known of pieces.
 pub fn look_at(
-    edges: &[u64],
-    start: &[u64],
-    near: &[u64],
-    areas: &[u64],
+    faces: Faces,
     labels: &[u64],
     colouring: &mut [u64],
     queue: &mut [u64],
@@ -473,38 +426,31 @@ pub fn look_at(
     region: usize,
     sector: u64,
 ) -> Look
-    requires remembered { Remembered (length start.now - 1) sectors (edges_of edges.now) colouring.old clock known.old }
-    requires looking { Looking (length start.now - 1) (edges_of edges.now) start.now near.now areas.now colouring.old queue.old region sector }
-    requires labels_value { labels.now ≡ labelsOf (edges_of edges.now) colouring.old }
-    ensures remembered_2 { Remembered (length start.now - 1) sectors (edges_of edges.now) colouring.old clock known.new }
-    ensures looked { Looked (edges_of edges.now) colouring.old region sector result }
+    requires remembered { Remembered (length faces.start.now - 1) sectors (edges_of faces.edges.now) colouring.old clock known.old }
+    requires looking { Looking (length faces.start.now - 1) (edges_of faces.edges.now) faces.start.now faces.near.now faces.areas.now colouring.old queue.old region sector }
+    requires labels_value { labels.now ≡ labelsOf (edges_of faces.edges.now) colouring.old }
+    ensures remembered_2 { Remembered (length faces.entry.start.now - 1) sectors (edges_of faces.entry.edges.now) colouring.old clock known.new }
+    ensures looked { Looked (edges_of faces.entry.edges.now) colouring.old region sector result }
     ensures colouring_unchanged { colouring.new ≡ colouring.old }
 {
-    let met = meet(
-        edges, start, near, areas, labels, colouring, queue, region, sector,
-    );
-    let left = pieces_of(
-        edges, start, near, colouring, queue, known, sectors, clock, region,
-    );
+    let met = meet(faces, labels, colouring, queue, region, sector);
+    let left = pieces_of(faces, colouring, queue, known, sectors, clock, region);
     Look { pieces: left, met }
 }
 
-// Looks at giving a region to a sector, where the labels are not known.
+// Looks at giving a region to a sector, where the labels are not known. It shares no step with `look_at`, which goes by them.
 pub fn look_anew(
-    edges: &[u64],
-    start: &[u64],
-    near: &[u64],
-    areas: &[u64],
+    faces: Faces,
     colouring: &mut [u64],
     queue: &mut [u64],
     region: usize,
     sector: u64,
 ) -> Look
-    requires { Looking (length start.now - 1) (edges_of edges.now) start.now near.now areas.now colouring.old queue.old region sector }
-    ensures looked { Looked (edges_of edges.now) colouring.old region sector result }
+    requires { Looking (length faces.start.now - 1) (edges_of faces.edges.now) faces.start.now faces.near.now faces.areas.now colouring.old queue.old region sector }
+    ensures looked { Looked (edges_of faces.entry.edges.now) colouring.old region sector result }
     ensures colouring_unchanged { colouring.new ≡ colouring.old }
 {
-    let met = meet_anew(edges, start, near, areas, colouring, queue, region, sector);
-    let left = pieces_at(edges, start, near, colouring, queue, region);
+    let met = meet_anew(faces, colouring, queue, region, sector);
+    let left = pieces_at(faces, colouring, queue, region);
     Look { pieces: left, met }
 }

@@ -1,6 +1,6 @@
 -- The numbers of a head, as they are read and tested.
 -- Assumes nothing.
-use Rattle.std.specs.Prelude.{ℕ, ◌*◌, ◌/◌, ◌≤◌, ◌<◌, ◌≡◌, refl, Bool, false, List, length, take, drop, replicate}
+use Rattle.std.specs.Prelude.{ℕ, ◌*◌, ◌/◌, ◌≤◌, ◌<◌, ◌≡◌, refl, Bool, false, List, length, drop, replicate}
 use Rattle.std.proofs.Common.{arith, ◌∙◌, le-leb}
 use Rattle.std.proofs.Math.Path.{ap}
 use Rattle.std.proofs.lemmas.Bool.{lt-leb}
@@ -17,9 +17,8 @@ use Rattle.blocks.specs.Layout.{section_of, laid_whole, laid_read}
 use Rattle.form.specs.declared.Form.{Form}
 use Rattle.form.specs.declared.Form.TheVariants.{First, Second}
 use Rattle.form.specs.declared.Head.{Head}
-use Rattle.form.specs.Form.{head_length, flight_count, head_widths, head_layout, head_from, head_in}
-use Rattle.form.specs.FormLaws.{longest_head}
-use Rattle.form.proofs.FormLaws.{few_head, head_widths_lem, laid_head}
+use Rattle.form.specs.Form.{flight_count, head_widths, head_layout, head_from, head_in}
+use Rattle.form.proofs.FormLaws.{laid_head}
 use Rattle.form.proofs.ContentsLaws.{head_block}
 use Rattle.form.specs.Refusals.{flights_right}
 
@@ -31,31 +30,24 @@ unfolding put
 head_zeros First bytes = refl
 head_zeros Second bytes = refl
 
-module _ (f : Form) {s : Section} {n stride : ℕ} (e : s ≡ section_of (head_layout f)) (l : n ≡ head_length f) (b : stride ≡ total (head_widths f)) where
-  widths : take n longest_head ≡ head_widths f
-  widths = ap (λ (m : ℕ). take m longest_head) l ∙ head_widths_lem f
-
+module _ (f : Form) {s : Section} {ws : List ℕ} {stride : ℕ} (e : s ≡ section_of (head_layout f)) (l : ws ≡ head_widths f) (b : stride ≡ total (head_widths f)) where
   -- it is one record, in one block
-  pub head_whole : Whole s (take n longest_head) stride
-  head_whole = rw (widths, b) (laid_whole (laid_head f) e)
+  pub head_whole : Whole s ws stride
+  head_whole = rw (l, b) (laid_whole (laid_head f) e)
 
-  pub head_few : n ≤ 6
-  head_few = rw l (few_head f)
-
-  pub head_one : (blocks_of s ≡ 1) × (s.bytes / stride * length (take n longest_head) ≤ 6)
-  head_one = rw (e, widths, b) (one f)
+  pub head_one : (blocks_of s ≡ 1) × (s.bytes / stride * length ws ≤ 6)
+  head_one = rw (e, l, b) (one f)
     where
       one : (f : Form) → (blocks_of (section_of (head_layout f)) ≡ 1) × ((section_of (head_layout f)).bytes / total (head_widths f) * length (head_widths f) ≤ 6)
       one First = (refl, omega arith)
       one Second = (refl, omega arith)
 
   -- its numbers are the sheet's head
-  pub head_front : (sheet : List ℕ) {out : List ℕ} → out ≡ put (replicate 6 0) 0 (unpack (rep (s.bytes / stride) (take n longest_head)) (stream_from (section_dues s) (drop (block_length * 0) sheet)))
-      → head_from out ≡ head_in f sheet
+  pub head_front : (sheet : List ℕ) {out : List ℕ} → out ≡ put (replicate 6 0) 0 (unpack (rep (s.bytes / stride) ws) (stream_from (section_dues s) (drop (block_length * 0) sheet))) → head_from out ≡ head_in f sheet
   unfolding head_in
   head_front sheet h =
-      let read : unpack (rep (s.bytes / stride) (take n longest_head)) (stream_from (section_dues s) (drop (block_length * 0) sheet)) ≡ unpack (head_widths f) (payload_of (total (head_widths f)) (block_at sheet 0)) =
-      rw (widths, b) (laid_read (laid_head f) e 0 sheet ∙ head_block f sheet) in
+      let read : unpack (rep (s.bytes / stride) ws) (stream_from (section_dues s) (drop (block_length * 0) sheet)) ≡ unpack (head_widths f) (payload_of (total (head_widths f)) (block_at sheet 0)) =
+      rw (l, b) (laid_read (laid_head f) e 0 sheet ∙ head_block f sheet) in
       ap head_from (h ∙ ap (put (replicate 6 0) 0) read)
       ∙ head_zeros f (payload_of (total (head_widths f)) (block_at sheet 0))
 

@@ -51,23 +51,25 @@ module _ (f : Form) (sheet : List ℕ) where
       pub open_faulty : (code ≡ 0 → ⊥) → refused code 0 ≡ refusal (open_table f sheet)
       open_faulty n = ap (λ (k : ℕ). refused k 0) w ∙ first_given fault_row _ (rw (← w, ne_eqb code 0 n)) ∙ open_long
 
-      module _ (z : code ≡ 0) {h : Head} (k : h ≡ head_in f sheet) {r : Refusal} (g : r ≡ refusal (head_table f h)) where
-        open_head : refusal (head_table f h ++ (count_row ∷ [])) ≡ refusal (open_table f sheet)
+      module _ (z : code ≡ 0) {h : Head} (k : h ≡ head_in f sheet) where
+        -- it is not: the head's numbers and the number of blocks settle it
+        pub open_head : refusal (head_table f h ++ (count_row ∷ [])) ≡ refusal (open_table f sheet)
         open_head = rw k (first_passed fault_row _ (rw (← w, z)) ∙ open_long)
 
-        -- the head is refused for one of its numbers
-        pub open_numbers : (r.code ≡ 0 → ⊥) → r ≡ refusal (open_table f sheet)
-        open_numbers n = g ∙ front-given (head_table f h) _ (rw g at n) ∙ open_head
+        module _ {r : Refusal} (g : r ≡ refusal (head_table f h)) where
+          -- the head is refused for one of its numbers
+          pub open_numbers : (r.code ≡ 0 → ⊥) → r ≡ refusal (open_table f sheet)
+          open_numbers n = g ∙ front-given (head_table f h) _ (rw g at n) ∙ open_head
 
-        module _ (y : r.code ≡ 0) {n : ℕ} (m : n ≡ length (dues f h)) where
-          open_count : refusal (count_row ∷ []) ≡ refusal (open_table f sheet)
-          open_count = front_passed (head_table f h) _ (passed (head_table f h) tt (rw g at y)) ∙ open_head
+          module _ (y : r.code ≡ 0) {n : ℕ} (m : n ≡ length (dues f h)) where
+            open_count : refusal (count_row ∷ []) ≡ refusal (open_table f sheet)
+            open_count = front_passed (head_table f h) _ (passed (head_table f h) tt (rw g at y)) ∙ open_head
 
-          -- the number of blocks is refused
-          pub open_other : (length sheet / block_length ≡ n → ⊥) → refused 38 0 ≡ refusal (open_table f sheet)
-          open_other d = first_given count_row [] (rw (← k, ← m, ne_eqb (length sheet / block_length) n d)) ∙ open_count
+            -- the number of blocks is refused
+            pub open_other : (length sheet / block_length ≡ n → ⊥) → refused 38 0 ≡ refusal (open_table f sheet)
+            open_other d = first_given count_row [] (rw (← k, ← m, ne_eqb (length sheet / block_length) n d)) ∙ open_count
 
-          -- nothing is
-          pub open_none : length sheet / block_length ≡ n → none ≡ refusal (open_table f sheet)
-          unfolding refusal
-          open_none d = first_passed count_row [] (rw (← k, ← m, eq-eqb (length sheet / block_length) n d)) ∙ open_count
+            -- nothing is
+            pub open_none : length sheet / block_length ≡ n → none ≡ refusal (open_table f sheet)
+            unfolding refusal
+            open_none d = first_passed count_row [] (rw (← k, ← m, eq-eqb (length sheet / block_length) n d)) ∙ open_count

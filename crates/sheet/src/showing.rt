@@ -21,11 +21,7 @@ pub fn past_end(sheet: &[u8], number: usize) -> bool
     ensures { result ≡ past_end sheet.now number }
 {
     let form = Form::of(sheet);
-    let refusal = open_refusal(form, sheet);
-    if refusal.code != 0 {
-        return true;
-    }
-    number >= all_blocks(form, head_in(form, sheet))
+    open_refusal(form, sheet).is_err() || number >= all_blocks(form, head_in(form, sheet))
 }
 
 // The place after a block; one where there is no block stays.
@@ -46,9 +42,9 @@ pub fn block(sheet: &[u8], number: usize) -> &[u8]
         return empty_part(sheet);
     }
     let form = Form::of(sheet);
-    let due = due_of(form, head_in(form, sheet), number);
-    if block_fault(sheet, &form.letters(), number, due.kind, due.used) != 0 {
-        return empty_part(sheet);
+    let due = due_of(form, head_in(form, sheet), number).unwrap();
+    match block_fault(sheet, &form.letters(), number, due) {
+        Ok(()) => payload(sheet, number, due.used),
+        Err(_) => empty_part(sheet),
     }
-    payload(sheet, number, due.used)
 }

@@ -1,14 +1,12 @@
 -- Making a move of three numbers loses none of them.
 -- Assumes nothing.
-use Rattle.std.specs.Prelude.{ℕ, ◌+◌, ◌≤◌, ◌≡◌, ◌≢◌, Bool, cond, ◌&&◌, [], ◌∷◌, eqb, leb}
+use Rattle.std.specs.Prelude.{ℕ, ◌+◌, ◌≤◌, ◌≡◌, ◌≢◌, Bool, cond, ◌&&◌, [], ◌∷◌, eqb, leb, Some, None}
 use Rattle.std.proofs.Common.{arith, sym}
 use Rattle.std.proofs.Math.Path.{refl, ap}
 use Rattle.std.proofs.Math.Bool.{true, false}
 use borrow.Author.Tests.{eqb-true, eqb-false, leb-true, leb-false}
 use Rattle.terms.specs.Plan.{within, region_of, sector_of}
 use Rattle.terms.specs.Moves.{no_kind, no_second, recolouring, exchange, question, of_region, move_of, status, numbers}
-use Rattle.terms.specs.declared.MadeRegion.TheVariants as region
-use Rattle.terms.specs.declared.MadeSector.TheVariants as sector
 use Rattle.terms.specs.declared.Move.{Move}
 use Rattle.terms.specs.declared.Move.TheVariants.{Ask, Refused}
 
@@ -24,12 +22,12 @@ module _ (R S kind a b : ℕ) where
   Kept : Move → Type 0
   Kept m = status m ≡ 0 → numbers m ≡ kind ∷ a ∷ b ∷ []
 
-  kept-recolouring : 1 ≤ kind → kind ≤ 2 → (t : Bool) → Kept (recolouring (eqb kind 2) (record { 0 = a }) (cond t (sector.Made (record { 0 = b })) sector.Refused))
+  kept-recolouring : 1 ≤ kind → kind ≤ 2 → (t : Bool) → Kept (recolouring (eqb kind 2) (record { 0 = a }) (cond t (Some (record { 0 = b })) None))
   unfolding Kept recolouring
   kept-recolouring low high true e = ap (λ (n : ℕ). n ∷ a ∷ b ∷ []) (which 1 kind low high)
   kept-recolouring low high false e = absurd (omega arith)
 
-  kept-exchange : 3 ≤ kind → kind ≤ 4 → (t : Bool) → Kept (exchange (eqb kind 4) (record { 0 = a }) (cond t (region.Made (record { 0 = b })) region.Refused))
+  kept-exchange : 3 ≤ kind → kind ≤ 4 → (t : Bool) → Kept (exchange (eqb kind 4) (record { 0 = a }) (cond t (Some (record { 0 = b })) None))
   unfolding Kept exchange
   kept-exchange low high true e = ap (λ (n : ℕ). n ∷ a ∷ b ∷ []) (which 3 kind low high)
   kept-exchange low high false e = absurd (omega arith)
@@ -48,7 +46,7 @@ module _ (R S kind a b : ℕ) where
   kept-accepted low high true h = kept-recolouring low (leb-true kind 2 h) (within 1 b S)
   kept-accepted low high false h = kept_later (leb-false kind 2 h) high (leb kind 4) refl
 
-  kept_region : 1 ≤ kind → kind ≤ 5 → (t : Bool) → Kept (of_region R S kind (cond t (region.Made (record { 0 = a })) region.Refused) b)
+  kept_region : 1 ≤ kind → kind ≤ 5 → (t : Bool) → Kept (of_region R S kind (cond t (Some (record { 0 = a })) None) b)
   unfolding Kept of_region
   kept_region low high true = kept-accepted low high (leb kind 2) refl
   kept_region low high false = λ e. absurd (omega arith)

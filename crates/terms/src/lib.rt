@@ -1,159 +1,121 @@
-// Document 01's terms: a region, a sector, a relation and a move, each made by a constructor that refuses what is out of range.
+// Document 01's terms: a region, a sector, a relation and a move, each made of numbers by a function that has no answer for what is out of range.
 #![tactic(auto)]
 
-ghost use Rattle.std.specs.Prelude.{◌≡◌, ◌-◌, ◌<◌, ◌^◌, min, max};
-ghost use Rattle.lists.specs.Sums.{In};
-ghost use Rattle.terms.specs.Plan.{within, region_of, sector_of, relation_of};
-ghost use Rattle.terms.specs.Distance.{gap, distance};
-ghost use Rattle.terms.specs.Moves.{recolouring, exchange, question, move_of};
+ghost use Rattle.std.specs.Prelude.{◌≡◌, ◌<◌, ◌^◌};
+ghost use Rattle.terms.specs.Plan.{within, region_of, sector_of, relation_of, code_of};
+ghost use Rattle.terms.specs.Distance.{distance};
+ghost use Rattle.terms.specs.Moves.{recolouring, exchange, question, move_of, wrong_status};
 
 pub mod limits;
 
+// Whether x is one of low to high.
 pub fn in_limits(low: u64, x: u64, high: u64) -> bool
     ensures { result ≡ within low x high }
 {
-    if x < low {
-        return false;
-    }
-    x <= high
+    (low..=high).contains(&x)
 }
 
 #[derive(Clone, Copy)]
 pub struct Region(pub u64);
 
-#[derive(Drop)]
-pub enum MadeRegion {
-    Made(Region),
-    Refused,
-}
-
 impl Region {
-    pub fn new(regions: u64, number: u64) -> MadeRegion
+    pub fn new(regions: u64, number: u64) -> Option<Region>
         ensures { result ≡ region_of regions number }
     {
-        if in_limits(1, number, regions) {
-            return MadeRegion::Made(Region(number));
-        }
-        MadeRegion::Refused
+        in_limits(1, number, regions).then_some(Region(number))
     }
 }
 
+// A type of its own beside `Region`, and not one generic type with it, so that neither is taken for the other.
 #[derive(Clone, Copy)]
 pub struct Sector(pub u64);
 
-#[derive(Drop)]
-pub enum MadeSector {
-    Made(Sector),
-    Refused,
-}
-
 impl Sector {
-    pub fn new(sectors: u64, number: u64) -> MadeSector
+    pub fn new(sectors: u64, number: u64) -> Option<Sector>
         ensures { result ≡ sector_of sectors number }
     {
-        if in_limits(1, number, sectors) {
-            return MadeSector::Made(Sector(number));
-        }
-        MadeSector::Refused
+        in_limits(1, number, sectors).then_some(Sector(number))
     }
 }
 
 #[derive(Clone, Copy)]
-pub struct Relation {
-    pub code: u64,
-}
-
-#[derive(Drop)]
-pub enum MadeRelation {
-    Made(Relation),
-    Refused,
-}
-
-// x less t, and 0 where t is larger.
-pub fn excess(x: u64, t: u64) -> u64
-    ensures { result ≡ x - t }
-{
-    if t < x { x - t } else { 0 }
-}
-
-// |x - t|.
-pub fn apart(x: u64, t: u64) -> u64
-    ensures { result ≡ gap x t }
-{
-    if x < t { t - x } else { x - t }
-}
-
-// The smaller of two numbers.
-pub fn lesser(a: u64, b: u64) -> u64
-    ensures { result ≡ min a b }
-{
-    if b < a { b } else { a }
-}
-
-// The larger of two numbers.
-pub fn greater(a: u64, b: u64) -> u64
-    ensures { result ≡ max a b }
-{
-    if a < b { b } else { a }
+pub enum Relation {
+    AtMost = 1,
+    Below = 2,
+    Equal = 3,
+    NotEqual = 4,
+    Above = 5,
+    AtLeast = 6,
 }
 
 impl Relation {
+    // The lowest of the codes.
     pub const AT_MOST: u64 = 1;
 
-    pub const BELOW: u64 = 2;
-
-    pub const EQUAL: u64 = 3;
-
-    pub const NOT_EQUAL: u64 = 4;
-
-    pub const ABOVE: u64 = 5;
-
+    // The highest of the codes.
     pub const AT_LEAST: u64 = 6;
 
-    pub fn new(code: u64) -> MadeRelation
+    pub fn new(code: u64) -> Option<Relation>
         ensures { result ≡ relation_of code }
     {
-        if in_limits(Relation::AT_MOST, code, Relation::AT_LEAST) {
-            return MadeRelation::Made(Relation { code });
+        match code {
+            1 => Some(Relation::AtMost),
+            2 => Some(Relation::Below),
+            3 => Some(Relation::Equal),
+            4 => Some(Relation::NotEqual),
+            5 => Some(Relation::Above),
+            6 => Some(Relation::AtLeast),
+            _ => None,
         }
-        MadeRelation::Refused
+    }
+
+    pub fn code(self) -> u64
+        ensures { result ≡ code_of self }
+    {
+        self as u64
     }
 
     // How far x is from standing in the relation to t.
+    #[tactic(auto, unfolding(crate::specs::Distance::distance))]
     pub fn distance(self, x: u64, t: u64) -> u64
         requires { (x < 2 ^ 63) × (t < 2 ^ 63) }
-        ensures { result ≡ distance self.code x t }
+        ensures { result ≡ distance (code_of self) x t }
     {
-        let code = self.code;
-        if code == Relation::AT_MOST {
-            return excess(x, t);
+        match self {
+            Relation::AtMost => x.saturating_sub(t),
+            Relation::Below => (x + 1).saturating_sub(t),
+            Relation::Equal => x.abs_diff(t),
+            Relation::NotEqual => u64::from(x == t),
+            Relation::Above => (t + 1).saturating_sub(x),
+            Relation::AtLeast => t.saturating_sub(x),
         }
-        if code == Relation::BELOW {
-            return excess(x + 1, t);
-        }
-        if code == Relation::EQUAL {
-            return apart(x, t);
-        }
-        if code == Relation::NOT_EQUAL {
-            return if x == t { 1 } else { 0 };
-        }
-        if code == Relation::ABOVE {
-            return excess(t + 1, x);
-        }
-        excess(t, x)
     }
 }
 
-// The relation of a code that is one of 1 to 6.
-pub fn relation_of(code: u64) -> Relation
-    requires { In 6 code }
-    ensures { result.code ≡ code }
+// How far x is from standing in the relation of a code to t. A code that is no relation's is read as at least, as the definition reads it.
+#[tactic(auto, unfolding(crate::specs::Distance::distance))]
+pub fn distance(code: u64, x: u64, t: u64) -> u64
+    requires { (x < 2 ^ 63) × (t < 2 ^ 63) }
+    ensures { result ≡ distance code x t }
 {
-    match Relation::new(code) {
-        MadeRelation::Made(relation) => relation,
-        MadeRelation::Refused => Relation {
-            code: Relation::AT_MOST,
-        },
+    Relation::new(code)
+        .unwrap_or(Relation::AtLeast)
+        .distance(x, t)
+}
+
+// What is wrong with three numbers that make no move.
+#[derive(Clone, Copy)]
+pub enum Wrong {
+    NoKind = 21,
+    NoRegion = 22,
+    NoSecond = 23,
+}
+
+impl Wrong {
+    pub fn status(self) -> u64
+        ensures { result ≡ wrong_status self }
+    {
+        self as u64
     }
 }
 
@@ -171,10 +133,12 @@ pub enum Move {
         second: Region,
     },
     Ask(Region),
+    // With the status of its row: any number, as the moves of `meaning` have it and `engine::step` takes it.
     Refused(u64),
 }
 
 impl Move {
+    // The kinds as the lent list of moves has them.
     pub const PROBE_RECOLOUR: u64 = 1;
 
     pub const MAKE_RECOLOUR: u64 = 2;
@@ -185,70 +149,68 @@ impl Move {
 
     pub const ASK: u64 = 5;
 
-    pub const NO_KIND: u64 = 21;
-
-    pub const NO_REGION: u64 = 22;
-
-    pub const NO_SECOND: u64 = 23;
-
+    #[tactic(auto, unfolding(crate::specs::Moves::move_of, crate::specs::Moves::of_region))]
     pub fn new(regions: u64, sectors: u64, kind: u64, first: u64, second: u64) -> Move
         ensures { result ≡ move_of regions sectors kind first second }
     {
         if !in_limits(Move::PROBE_RECOLOUR, kind, Move::ASK) {
-            return Move::Refused(Move::NO_KIND);
+            return Move::Refused(Wrong::NoKind.status());
         }
-        let MadeRegion::Made(region) = Region::new(regions, first) else {
-            return Move::Refused(Move::NO_REGION);
+        let Some(region) = Region::new(regions, first) else {
+            return Move::Refused(Wrong::NoRegion.status());
         };
-        if kind <= Move::MAKE_RECOLOUR {
-            return Move::recolouring(
+        match kind {
+            Move::PROBE_RECOLOUR | Move::MAKE_RECOLOUR => Move::recolouring(
                 kind == Move::MAKE_RECOLOUR,
                 region,
                 Sector::new(sectors, second),
-            );
-        }
-        if kind <= Move::MAKE_EXCHANGE {
-            return Move::exchange(
+            ),
+            Move::PROBE_EXCHANGE | Move::MAKE_EXCHANGE => Move::exchange(
                 kind == Move::MAKE_EXCHANGE,
                 region,
                 Region::new(regions, second),
-            );
+            ),
+            _ => Move::question(region, second),
         }
-        Move::question(region, second)
     }
 
-    fn recolouring(make: bool, region: Region, sector: MadeSector) -> Move
+    #[tactic(auto, unfolding(crate::specs::Moves::recolouring))]
+    fn recolouring(make: bool, region: Region, sector: Option<Sector>) -> Move
         ensures { result ≡ recolouring make region sector }
     {
         match sector {
-            MadeSector::Made(sector) => Move::Recolour {
+            Some(sector) => Move::Recolour {
                 make,
                 region,
                 sector,
             },
-            MadeSector::Refused => Move::Refused(Move::NO_SECOND),
+            None => Move::Refused(Wrong::NoSecond.status()),
         }
     }
 
-    fn exchange(make: bool, first: Region, second: MadeRegion) -> Move
+    // Beside `recolouring`, and not one with it: they make two variants of two kinds of second.
+    #[tactic(auto, unfolding(crate::specs::Moves::exchange))]
+    fn exchange(make: bool, first: Region, second: Option<Region>) -> Move
         ensures { result ≡ exchange make first second }
     {
         match second {
-            MadeRegion::Made(second) => Move::Exchange {
+            Some(second) => Move::Exchange {
                 make,
                 first,
                 second,
             },
-            MadeRegion::Refused => Move::Refused(Move::NO_SECOND),
+            None => Move::Refused(Wrong::NoSecond.status()),
         }
     }
 
+    #[tactic(auto, unfolding(crate::specs::Moves::question))]
     fn question(region: Region, second: u64) -> Move
         ensures { result ≡ question region second }
     {
         if second == 0 {
-            return Move::Ask(region);
+            Move::Ask(region)
+        } else {
+            Move::Refused(Wrong::NoSecond.status())
         }
-        Move::Refused(Move::NO_SECOND)
     }
 }

@@ -25,6 +25,7 @@ pub const MOST_WEIGHT: u64 = 1_000;
 
 pub const MOST_MOVES: u64 = 4_096;
 
+// The kinds are numbers, and no enum: the lent lists hold them, and they are picked by ranges.
 pub const CONNECTED: u64 = 1;
 
 pub const BORDER: u64 = 2;

@@ -1,14 +1,15 @@
 -- The row of a move: what it says, and the stores that put it down.
 -- Assumes nothing.
-use Rattle.std.specs.Prelude.{ℕ, suc, ◌+◌, ◌≡◌, List, ℤ, pos, set}
-use Rattle.std.proofs.Common.{arith, ap, ◌∙◌, SFits, to_z, of_z, to_z-of_z}
-use Rattle.std.proofs.lemmas.List.Edits.{sets}
+use Rattle.std.specs.Prelude.{ℕ, ◌+◌, ◌-◌, ◌≤◌, ◌≡◌, List, [], ◌∷◌, ℤ, pos, length, take}
+use Rattle.std.proofs.Common.{arith, ap, sym, append_assoc, drop-drop, ◌∙◌, SFits, to_z, of_z, to_z-of_z}
+use Rattle.std.proofs.lemmas.List.Edits.{sets, sets-eq}
+use borrow.Rule.Slice.PartMut.{put_mid}
 use Rattle.std.specs.Int.{w64}
 use Rattle.lists.specs.Sums.{Every}
 use Rattle.terms.specs.Moves.{status}
 use Rattle.terms.specs.declared.Move.{Move}
 use Rattle.meaning.specs.Plan.{Plan, Limits}
-use Rattle.meaning.specs.Moves.{Row, row, cells}
+use Rattle.meaning.specs.Moves.{Row, row_length, row, cells}
 use Rattle.meaning.proofs.Deltas.{delta_reads, row_fits}
 use Rattle.engine.specs.State.{Within, Answered}
 use Rattle.turns.specs.Decoded.{status_small}
@@ -23,15 +24,13 @@ meant r = record { status = pos r.status; delta = r.delta; total = pos r.total; 
 abbrev read : ℤ → ℤ
 read z = to_z w64 (of_z w64 z)
 
--- the stores of a row's numbers, each exact in an i64, put down its cells
-pub row-stored : (l : List ℤ) (n : ℕ) (r : Row) → Every (SFits w64) (cells r)
-    → set (set (set (set l n (read r.status)) (n + 1) (read r.delta)) (n + 2) (read r.total)) (n + 3) (read r.relabelled) ≡ sets l n (cells r)
+-- a row's numbers, each exact in an i64, put in the place of four are its cells put down
+pub row-stored : (l : List ℤ) (n : ℕ) (r : Row) → Every (SFits w64) (cells r) → n + row_length ≤ length l
+    → {vs : List ℤ} → vs ≡ read r.status ∷ read r.delta ∷ read r.total ∷ read r.relabelled ∷ [] → put_mid n (n + row_length - n) l vs ≡ sets l n (cells r)
 unfolding cells
-row-stored l n r f =
-    let e1 : n + 1 ≡ suc n = omega arith in
-    let e2 : n + 2 ≡ suc (suc n) = omega arith in
-    let e3 : n + 3 ≡ suc (suc (suc n)) = omega arith in
-    rw (to_z-of_z f.0, to_z-of_z f.1.0, to_z-of_z f.1.1.0, to_z-of_z f.1.1.1.0, e1, e2, e3)
+row-stored l n r f room e =
+    let k : n + (n + row_length - n) ≡ n + row_length = omega arith in
+    rw (e, to_z-of_z f.0, to_z-of_z f.1.0, to_z-of_z f.1.1.0, to_z-of_z f.1.1.1.0, drop-drop (n + row_length - n) n l, k) (sym (sets-eq (r.status ∷ r.delta ∷ r.total ∷ r.relabelled ∷ []) l n room ∙ append_assoc (take n l) _ _))
 
 -- what the row of a move says, by its status and its answer
 abbrev said : ℕ → Stepped → code.Row
@@ -39,7 +38,7 @@ said status r = record { status = status; delta = read r.delta; total = r.standi
 
 module _ {P : Plan} {col w : List ℕ} {asked : Move} {col' w' ps' : List ℕ} {r : Stepped} (l : Limits P) (a : Answered P col w asked col' w' ps' r) {m : Move} (e : asked ≡ m) {st : ℕ} (s : st ≡ status asked) where
   -- it says the row of the meaning
-  said_row : meant (said st r) ≡ row P col m
+  pub said_row : meant (said st r) ≡ row P col m
   unfolding row
   said_row = rw (s, a.delta, a.standing, a.relabelled, delta_reads P l col asked, e)
 

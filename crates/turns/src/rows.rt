@@ -24,13 +24,12 @@ pub fn put_row(rows: &mut [i64], k: usize, row: Row)
     requires every { Every (SFits w64) (cells (meant row)) }
     ensures { rows.new ≡ sets rows.old (row_length * k) (cells (meant row)) }
 {
-    let status = row.status as i64;
-    let delta = row.delta;
-    let total = row.total as i64;
-    let relabelled = row.relabelled as i64;
     let at = ROW_LENGTH * k;
-    rows[at] = status;
-    rows[at + 1] = delta;
-    rows[at + 2] = total;
-    rows[at + 3] = relabelled;
+    let cells = [
+        row.status as i64,
+        row.delta,
+        row.total as i64,
+        row.relabelled as i64,
+    ];
+    rows[at..at + ROW_LENGTH].copy_from_slice(&cells);
 }

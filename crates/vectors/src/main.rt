@@ -8,6 +8,7 @@ ghost use Rattle.blocks.specs.Block.{block_length};
 
 use blocks::check::{Sums, sums_of};
 use blocks::{BLOCK_LENGTH, CHECKED_LENGTH, HEADER_LENGTH};
+use meaning::Lists;
 use sheet::showing::block;
 use std::io;
 use writing::{Written, write, write_second};
@@ -31,70 +32,48 @@ const FLOWN_CONSTRAINTS: [u64; 20] = [
     1, 3, 2, 100, 2, 1, 5, 1, 3, 1, 40, 2, 4, 1, 55, 3, 5, 6, 60, 2,
 ];
 
-fn say(rt: &impl Print, text: &[u8]) -> io::Result<()> {
-    rt.write_all(text)
-}
-
-fn say_number(rt: &impl Print, n: u64) -> io::Result<()> {
-    print!(rt; " {n}")
-}
-
-fn say_byte(rt: &impl Print, byte: u8) -> io::Result<()> {
-    print!(rt; " {byte:02x}")
-}
-
 fn say_bytes(rt: &impl Print, bytes: &[u8]) -> io::Result<()> {
     for byte in bytes {
-        say_byte(rt, *byte)?;
+        print!(rt; " {byte:02x}")?;
     }
     Ok(())
 }
 
-fn say_sums(rt: &impl Print, name: &[u8], sums: Sums) -> io::Result<()> {
-    say(rt, name)?;
-    say_number(rt, sums.first as u64)?;
-    say_number(rt, sums.second as u64)?;
-    say(rt, b"\n")
+fn say_sums(rt: &impl Print, name: &str, sums: Sums) -> io::Result<()> {
+    let Sums { first, second } = sums;
+    println!(rt; "{name}: {first} {second}")
 }
 
-fn say_written(rt: &impl Print, name: &[u8], written: Written) -> io::Result<()> {
-    say(rt, name)?;
-    say_number(rt, written.code)?;
-    say_number(rt, written.place)?;
-    say_number(rt, written.bytes)?;
-    say(rt, b"\n")
+fn say_written(rt: &impl Print, name: &str, written: Written) -> io::Result<()> {
+    let Written { code, place, bytes } = written;
+    println!(rt; "{name}: {code} {place} {bytes}")
 }
 
 fn say_block(rt: &impl Print, sheet: &[u8], number: usize) -> io::Result<()>
     requires { block_length * number + block_length ≤ length sheet.now }
 {
     let start = BLOCK_LENGTH * number;
-    let payload_at = start + HEADER_LENGTH;
-    let check_at = start + CHECKED_LENGTH;
-    let end = start + BLOCK_LENGTH;
-    say(rt, b"block")?;
-    say_number(rt, number as u64)?;
-    say(rt, b":")?;
-    say_bytes(rt, &sheet[start..payload_at])?;
-    say(rt, b",")?;
+    print!(rt; "block {number}:")?;
+    say_bytes(rt, &sheet[start..start + HEADER_LENGTH])?;
+    print!(rt; ",")?;
     say_bytes(rt, block(sheet, number))?;
-    say(rt, b",")?;
-    say_bytes(rt, &sheet[check_at..end])?;
-    say(rt, b"\n")
+    print!(rt; ",")?;
+    say_bytes(rt, &sheet[start + CHECKED_LENGTH..start + BLOCK_LENGTH])?;
+    println!(rt; "")
 }
 
 // The published sums, and those of few bytes and of many, where a sum comes to 255 and so to 0.
 fn fletcher_lines(rt: &impl Print) -> io::Result<()> {
-    say_sums(rt, b"abcde:", sums_of(b"abcde"))?;
-    say_sums(rt, b"abcdef:", sums_of(b"abcdef"))?;
-    say_sums(rt, b"abcdefgh:", sums_of(b"abcdefgh"))?;
-    say_sums(rt, b"no byte:", sums_of(&[]))?;
-    say_sums(rt, b"a byte 254:", sums_of(&[254]))?;
-    say_sums(rt, b"a byte 255:", sums_of(&[255]))?;
-    say_sums(rt, b"bytes 254 and 1:", sums_of(&[254, 1]))?;
-    say_sums(rt, b"255 bytes 1:", sums_of(&[1; 255]))?;
-    say_sums(rt, b"255 bytes 255:", sums_of(&[255; 255]))?;
-    say_sums(rt, b"510 bytes 255:", sums_of(&[255; CHECKED_LENGTH]))
+    say_sums(rt, "abcde", sums_of(b"abcde"))?;
+    say_sums(rt, "abcdef", sums_of(b"abcdef"))?;
+    say_sums(rt, "abcdefgh", sums_of(b"abcdefgh"))?;
+    say_sums(rt, "no byte", sums_of(&[]))?;
+    say_sums(rt, "a byte 254", sums_of(&[254]))?;
+    say_sums(rt, "a byte 255", sums_of(&[255]))?;
+    say_sums(rt, "bytes 254 and 1", sums_of(&[254, 1]))?;
+    say_sums(rt, "255 bytes 1", sums_of(&[1; 255]))?;
+    say_sums(rt, "255 bytes 255", sums_of(&[255; 255]))?;
+    say_sums(rt, "510 bytes 255", sums_of(&[255; CHECKED_LENGTH]))
 }
 
 // The bytes are lent with none zero, so that every zero is written.
@@ -109,37 +88,30 @@ fn sheet_a_lines(rt: &impl Print) -> io::Result<()> {
         &COLOURING,
         &mut sheet,
     );
-    say_written(rt, b"sheet A:", written)?;
-    say_block(rt, &sheet, 0)?;
-    say_block(rt, &sheet, 1)?;
-    say_block(rt, &sheet, 2)?;
-    say_block(rt, &sheet, 3)?;
-    say_block(rt, &sheet, 4)
+    say_written(rt, "sheet A", written)?;
+    for number in 0..5 {
+        say_block(rt, &sheet, number)?;
+    }
+    Ok(())
 }
 
 fn second_sheet_lines(rt: &impl Print) -> io::Result<()> {
     let mut sheet = [255u8; 8 * BLOCK_LENGTH];
-    let written = write_second(
-        5,
-        2,
-        &WORKLOADS,
-        &OUTSIDE,
-        &EDGES,
-        &COUNTS,
-        &VISITS,
-        &FLOWN_CONSTRAINTS,
-        &COLOURING,
-        &mut sheet,
-    );
-    say_written(rt, b"sheet A, outside areas and a flight:", written)?;
-    say_block(rt, &sheet, 0)?;
-    say_block(rt, &sheet, 1)?;
-    say_block(rt, &sheet, 2)?;
-    say_block(rt, &sheet, 3)?;
-    say_block(rt, &sheet, 4)?;
-    say_block(rt, &sheet, 5)?;
-    say_block(rt, &sheet, 6)?;
-    say_block(rt, &sheet, 7)
+    let lists = Lists {
+        sectors: 2,
+        workloads: &WORKLOADS,
+        outside: &OUTSIDE,
+        edges: &EDGES,
+        counts: &COUNTS,
+        visits: &VISITS,
+        constraints: &FLOWN_CONSTRAINTS,
+    };
+    let written = write_second(5, lists, &COLOURING, &mut sheet);
+    say_written(rt, "sheet A, outside areas and a flight", written)?;
+    for number in 0..8 {
+        say_block(rt, &sheet, number)?;
+    }
+    Ok(())
 }
 
 fn main(rt: HostRuntime) -> io::Result<()> {

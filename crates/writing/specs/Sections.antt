@@ -1,24 +1,22 @@
 -- A sheet kind by kind: the blocks of each, put down one after the other, are the sheet.
 -- Assumes nothing.
-use Rattle.std.specs.Prelude.{ℕ, ◌+◌, ◌*◌, ◌/◌, ◌≤◌, ◌≡◌, refl, List, [], ◌∷◌, map, length, take}
+use Rattle.std.specs.Prelude.{ℕ, ◌+◌, ◌*◌, ◌≤◌, ◌≡◌, refl, List, [], ◌∷◌, map, length, take}
 use Rattle.std.proofs.Common.{arith, sym, ap, ◌∙◌, length-append, take_at}
 use Rattle.lists.specs.Sums.{Every}
-use Rattle.packing.specs.Numbers.{total, rep, pack}
+use Rattle.packing.specs.Numbers.{total}
 use Rattle.packing.specs.Put.{put, length-put, put-none, put-put}
 use Rattle.meaning.specs.Plan.{edge_length, visit_length, constraint_length}
 use Rattle.blocks.specs.declared.Section.{Section}
-use Rattle.blocks.specs.Block.{block_length, letters_length}
-use Rattle.blocks.specs.Section.{blocks_of, section_dues}
+use Rattle.blocks.specs.Block.{block_length}
 use Rattle.blocks.specs.SectionLaws.{length-due}
-use Rattle.blocks.specs.Sheet.{sheet_from}
 use Rattle.blocks.specs.Whole.{Whole}
 use Rattle.blocks.specs.Layout.{Layout, section_of, all_dues, blocks_in, blocks_at, written_from, Laid, laid_whole, laid_count, laid_written, length_blocks}
 use Rattle.blocks.specs.Layout as blocks
 use Rattle.form.specs.declared.Form.{Form}
 use Rattle.form.specs.declared.Form.TheVariants.{First, Second}
 use Rattle.form.specs.declared.Head.{Head}
-use Rattle.form.specs.Form.{letters, outside_count, head_widths, layouts, dues, turned, head_numbers}
-use Rattle.form.proofs.FormLaws.{four_letters, laid_layouts, length-turned}
+use Rattle.form.specs.Form.{letters, outside_count, head_widths, head_layout, layouts, turned, head_numbers}
+use Rattle.form.proofs.FormLaws.{four_letters, laid_head, laid_layouts, length-turned}
 use Rattle.form.specs.Firsts.{HasBlocks}
 use Rattle.form.specs.Over.{over, put_front}
 
@@ -39,22 +37,9 @@ numbers_with f h workloads outside edges counts visits constraints colouring =
 
 -- ---- the blocks of one kind
 
--- of a layout, by letters that are the form's, a section that is the layout's own, and a first block that is n
-module _ (f : Form) {l : Layout} (laid : Laid l) {given : List ℕ} (e : given ≡ letters f) {s : Section} (own : s ≡ section_of l) {first n : ℕ} (at : first ≡ n) (numbers : List ℕ) where
-  -- what writing them asks for: letters and whole records, room, and enough numbers
-  pub blocks_asked : {h : Head} {sheet : List ℕ} → HasBlocks f sheet h → n + blocks_in l ≤ length (dues f h) → length numbers ≡ l.count * length l.widths
-      → ((length given ≡ letters_length) × Whole s l.widths (total l.widths))
-      × ((block_length * (first + blocks_of s) ≤ length sheet) × (s.bytes / total l.widths * length l.widths ≤ length numbers))
-  blocks_asked b room long = (
-    (ap length e ∙ four_letters f, laid_whole laid own),
-    (rw (own, at) (omega (arith, b.long)), rw (laid_count laid own) (omega arith)),
-  )
-
-  -- what it leaves: the block after them is the next kind's first, and they are put down
-  pub blocks_written : {r : ℕ} {sheet' : List ℕ} (sheet : List ℕ) → (r ≡ first + blocks_of s)
-      × (sheet' ≡ put sheet (block_length * first) (sheet_from given first (section_dues s) (pack (rep (s.bytes / total l.widths) l.widths) numbers)))
-      → (r ≡ n + blocks_in l) × (sheet' ≡ put sheet (block_length * n) (blocks_at (letters f) l n numbers))
-  blocks_written sheet w = (w.0 ∙ rw (own, at), w.1 ∙ rw (laid_written laid own, e, at))
+-- the head's section is whole records
+pub whole_head : (f : Form) {s : Section} → s ≡ section_of (head_layout f) → Whole s (head_widths f) (total (head_widths f))
+whole_head f e = laid_whole (laid_head f) e
 
 -- ---- the numbers of a kind, taken from the front of a list
 
@@ -78,6 +63,11 @@ pub data InTurn (f : Form) : ℕ → List Layout → List (List ℕ) → List �
   all-put : {n : ℕ} {sheet : List ℕ} → InTurn f n [] [] sheet sheet
   put_then : {n : ℕ} {l : Layout} {ls : List Layout} {xs : List ℕ} {xss : List (List ℕ)} {sheet sheet' out : List ℕ}
       → sheet' ≡ put sheet (block_length * n) (blocks_at (letters f) l n xs) → InTurn f (n + blocks_in l) ls xss sheet' out → InTurn f n (l ∷ ls) (xs ∷ xss) sheet out
+
+-- a kind's blocks, and then the others from the block after them
+pub put_on : {f : Form} {n r : ℕ} {l : Layout} {ls : List Layout} {xs : List ℕ} {xss : List (List ℕ)} {sheet sheet' out : List ℕ}
+    → r ≡ n + blocks_in l → sheet' ≡ put sheet (block_length * n) (blocks_at (letters f) l n xs) → InTurn f r ls xss sheet' out → InTurn f n (l ∷ ls) (xs ∷ xss) sheet out
+put_on e p more = put_then p (rw (← e) more)
 
 module _ (f : Form) where
   -- the blocks of all layouts are no longer than is due

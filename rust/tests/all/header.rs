@@ -106,6 +106,15 @@ fn numbers() {
             [format!("SCTR_{name}"), number]
         })
         .collect();
+    // The relations and the statuses are the cases of enums that have numbers.
+    let cases = source.lines().filter_map(|line| line.trim().strip_suffix(',')?.split_once(" = "));
+    due.extend(cases.filter(|(_, number)| number.parse::<u64>().is_ok()).map(|(name, number)| {
+        let letters = name.chars().map(|letter| match letter {
+            'A'..='Z' => format!("_{letter}"),
+            _ => letter.to_uppercase().to_string(),
+        });
+        [format!("SCTR{}", letters.collect::<String>()), number.to_string()]
+    }));
     assert!(due.len() > 30);
     due.push(["SCTR_BLOCK_BYTES".into(), BLOCK.to_string()]);
     due.push(["SCTR_MOST_BYTES".into(), format!("({} * SCTR_BLOCK_BYTES)", FIRST.blocks)]);

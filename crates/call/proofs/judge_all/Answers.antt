@@ -1,8 +1,8 @@
 -- The first judgement readies the memory for the moves, which leave it as a judgement of the last colouring would; the verdicts and T are made of its figures.
-use native.Mathlib.Omega.{arith}
-use mathlib.Core.Path.{refl, ◌∙◌}
+use Rattle.std.proofs.Common.{arith, refl}
 use Rattle.turns.specs.StateLaws.{setting_queue, opened_ready}
 use Rattle.turns.specs.Taken.{moved_ready}
+use Rattle.call.specs.Arrays.{valid_flying}
 use Rattle.call.specs.Concluding.{ready_concluding}
 use Rattle.call.specs.Promised.{ran_by}
 use Rattle.call.proofs.judge_all.Goals as goal
@@ -30,7 +30,7 @@ slice_bounds-conclude-end c = omega (arith, c.all_moves-last.auto.work, c.begin-
 pub conclude-requires : goal.conclude-requires
 conclude-requires c =
     let ready = opened_ready c.requires.valid.plan.limits c.requires.valid.plan.coloured c.begin-first.ensures c.requires.opening.room in
-    record { concluding = ready_concluding c.requires.valid.plan.limits (moved_ready c.args.moves.now c.requires.valid.plan.limits ready c.all_moves-last.ensures.opened) c.args.constraints.now refl c.requires.flown.priced.flying; constraints_in_bounds = c.requires.valid.verdicts_room }
+    record { concluding = ready_concluding c.requires.valid.plan.limits (moved_ready c.args.moves.now c.requires.valid.plan.limits ready c.all_moves-last.ensures.opened) c.args.prepared.lists.constraints.now refl (valid_flying c.requires.valid); constraints_in_bounds = c.requires.valid.verdicts_room }
 
 pub offset_bounds-work-at : goal.offset_bounds-work-at
 offset_bounds-work-at c = omega (arith, c.requires.valid.plan.limits.S, c.requires.valid.plan.limits.R)

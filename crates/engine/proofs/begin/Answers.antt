@@ -1,47 +1,19 @@
 -- What is laid out in the work memory makes the prices of the sectors; these, with the border and the price of the flights, make the figures, and the figures make the total.
-use native.Mathlib.Omega.{arith}
-use Rattle.engine.specs.Flown.{priced_total, priced_flying}
+use Rattle.engine.specs.Flown.{priced_total}
 use Rattle.engine.specs.Opening.{opening_blank, opening_faces, opening_tallies, opening_paying, opening_room, opening_small, opening_opened}
 use Rattle.engine.proofs.begin.Goals as goal
 
 pub lay_out-requires : goal.lay_out-requires
 lay_out-requires c = opening_blank c.requires.setting c.requires.opening
 
-pub overflow_add-counts_end : goal.overflow_add-counts_end
-overflow_add-counts_end c = omega (arith, c.requires.setting.limits)
-
-pub overflow_add-loads_end : goal.overflow_add-loads_end
-overflow_add-loads_end c = omega (arith, c.requires.setting.limits)
-
 pub border_of-border-requires : goal.border_of-border-requires
 border_of-border-requires c = let r = opening_faces c.requires.setting c.requires.opening c.lay_out.ensures.colouring_after in record { few = r.0; small_edges = r.1 }
-
-pub price_all-dwell-requires : goal.price_all-dwell-requires
-price_all-dwell-requires c = record { paying = c.requires.priced.timing; flying = priced_flying c.requires.opening.coloured c.requires.priced c.lay_out.ensures.colouring_after }
-
-pub offset_bounds-work-counts_end : goal.offset_bounds-work-counts_end
-offset_bounds-work-counts_end c = omega (arith, c.requires.setting.limits)
-
-pub slice_bounds-price_all-end : goal.slice_bounds-price_all-end
-slice_bounds-price_all-end c = omega (arith, c.requires.opening.room, c.lay_out.auto.work)
 
 pub price_all-requires : goal.price_all-requires
 price_all-requires c = let r = opening_paying c.requires.setting c.requires.opening c.lay_out.ensures.work_after c.requires.sorted in record { paying = r.0; few = r.1.0; prices_len = r.1.1 }
 
 pub sum_of-bounded-requires : goal.sum_of-bounded-requires
 sum_of-bounded-requires c = opening_room c.requires.setting c.requires.opening c.lay_out.ensures.work_after c.requires.sorted c.price_all.ensures
-
-pub offset_bounds-work-regions : goal.offset_bounds-work-regions
-offset_bounds-work-regions c = omega (arith, c.requires.setting.limits)
-
-pub slice_bounds-figures_of-end : goal.slice_bounds-figures_of-end
-slice_bounds-figures_of-end c = omega (arith, c.requires.opening.room, c.lay_out.auto.work)
-
-pub offset_bounds-work-counts_end-2 : goal.offset_bounds-work-counts_end-2
-offset_bounds-work-counts_end-2 c = omega (arith, c.requires.setting.limits)
-
-pub slice_bounds-figures_of-end-2 : goal.slice_bounds-figures_of-end-2
-slice_bounds-figures_of-end-2 c = omega (arith, c.requires.opening.room, c.lay_out.auto.work)
 
 pub figures_of-figures-requires : goal.figures_of-figures-requires
 figures_of-figures-requires c = opening_tallies c.requires.setting c.requires.opening c.lay_out.ensures.work_after

@@ -25,16 +25,16 @@ counted g c =
 
 -- and its sheet has room
 room : (g : Over) (c : In-Blocks g) → block_length * c.in-Blocks.blocks ≤ length c.loop-place.sheet
-room g c = omega (arith, (counted g c).few, c.loop-place.invariant.1.1)
+room g c = omega (arith, (counted g c).few, c.loop-place.invariant.1)
 
 pub loop-place-init : goal.loop-place-init
-loop-place-init g c = rw c.none-review.ensures (so_far_none, (omega arith, length-replicate {A = ℕ} (most_blocks Second * block_length) 0))
+loop-place-init g c = rw c.none-review.ensures (so_far_none, length-replicate {A = ℕ} (most_blocks Second * block_length) 0)
 
 pub returns-in-Nothing : goal.returns-in-Nothing
 returns-in-Nothing g c = ends_well c.loop-place.invariant.0 (count g (goal.at.returns-in-Nothing g c).After-by) (sym c.by.ensures ∙ c.in-Nothing.is)
 
 pub returns-in-Wrong : goal.returns-in-Wrong
-returns-in-Wrong g c = ends_count c.loop-place.invariant.0 c.loop-place-test.true (count g (goal.at.returns-in-Wrong g c).After-by) (sym c.by.ensures ∙ c.in-Wrong.is)
+returns-in-Wrong g c = ends_count c.loop-place.invariant.0 (omega arith) (count g (goal.at.returns-in-Wrong g c).After-by) (sym c.by.ensures ∙ c.in-Wrong.is)
 
 pub overflow_mul-size : goal.overflow_mul-size
 overflow_mul-size g c = omega (arith, (counted g (goal.at.overflow_mul-size g c).In-Blocks).few)
@@ -49,7 +49,7 @@ pub returns-then-read-size : goal.returns-then-read-size
 returns-then-read-size g c =
     let sheet = take c.read_full-read.result c.read_full-read.new.buffer in
     let few : length sheet < block_length * c.in-Blocks.blocks = omega (arith, c.read_full-read.ensures.prefix_len.1, c.if-read-size.true) in
-    ends_cut c.loop-place.invariant.0 c.loop-place-test.true (counted g (goal.at.returns-then-read-size g c).In-Blocks) sheet few
+    ends_cut c.loop-place.invariant.0 (omega arith) (counted g (goal.at.returns-then-read-size g c).In-Blocks) sheet few
 
 pub loop-place-preserved : goal.loop-place-preserved
 loop-place-preserved g c =
@@ -60,8 +60,8 @@ loop-place-preserved g c =
     let sheet = take c.read_full-read.result buffer in
     let read : length sheet ≡ size = omega (arith, c.read_full-read.ensures.prefix_len.0, c.read_full-read.ensures.prefix_len.1, c.if-read-size.false) in
     let same : take size (buffer ++ drop size c.loop-place.sheet) ≡ sheet = take_at buffer (drop size c.loop-place.sheet) size all ∙ sym (take_all c.read_full-read.result buffer (omega (arith, c.if-read-size.false))) in
-    let more = so_far_next c.loop-place.invariant.0 c.loop-place-test.true (counted g at) sheet read in
-    (rw (c.with_sheet-review.ensures, same) more, (omega (arith, c.loop-place-test.true), length_front c.loop-place.sheet buffer size c.read_full-read.auto.buffer ∙ c.loop-place.invariant.1.1))
+    let more = so_far_next c.loop-place.invariant.0 (omega arith) (counted g at) sheet read in
+    (rw (c.with_sheet-review.ensures, same) more, length_front c.loop-place.sheet buffer size c.read_full-read.auto.buffer ∙ c.loop-place.invariant.1)
 
 pub returns : goal.returns
-returns g c = ends_full c.loop-place.invariant.0 (omega (arith, c.loop-place-test.false))
+returns g c = ends_full c.loop-place.invariant.0 (omega arith)

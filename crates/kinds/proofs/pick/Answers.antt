@@ -1,5 +1,4 @@
 -- Those picked so far and those of the kinds low to high among the rest are all of these kinds.
-use Prim.Native.Nat.{◌-◌}
 use Rattle.kinds.specs.Picked.{picked_start, picked_place, picked_turn, picked_room, picked_end}
 use Rattle.kinds.proofs.pick.Goals as goal
 

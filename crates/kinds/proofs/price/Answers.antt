@@ -1,27 +1,21 @@
--- The price so far and that by the constraints left make the whole price, which fits.
-use Prim.Native.Nat.{◌-◌}
-use native.Mathlib.Omega.{arith}
-use Rattle.lists.specs.Loops.{summed_start, summed_room, summed_turn, summed_end}
+-- The chain adds up what x pays for each constraint, and that fits.
+use Rattle.std.proofs.Common.{rules, arith}
+use Rattle.std.proofs.lemmas.Iterator.Adapters.{serves_from_places}
 use Rattle.meaning.specs.Prices.{price}
-use Rattle.kinds.specs.Constraints.{length_constraints, constraint_next}
-use Rattle.kinds.specs.Paid.{paying_bound}
+use Rattle.kinds.specs.Paid.{price_by, paying_bound, paying_item}
+use Rattle.lists.proofs.Chains.{sum_from_chain, fits_from_chain}
+use Rattle.kinds.proofs.Chains.{all_constraints}
 use Rattle.kinds.proofs.price.Goals as goal
 
-pub loop-k-init : goal.loop-k-init
-loop-k-init c = summed_start
+pub sum-requires-clause-can : goal.sum-requires-clause-can
+sum-requires-clause-can c =
+    (tt, serves_from_places (all_constraints c.map.ensures.source) (λ k q h. search rules) (λ k i below e. let l = paying_item c.requires.paying below e in search rules))
 
-pub overflow_add-sum : goal.overflow_add-sum
+pub sum-requires-clause-fits : goal.sum-requires-clause-fits
 unfolding price
-overflow_add-sum c =
-    omega (
-      arith,
-      summed_room c.loop-k.invariant (constraint_next _ c.loop-k-test.true) c.price_by-sum.ensures,
-      paying_bound c.requires.paying _ c.requires.x_le_most_load,
-    )
-
-pub loop-k-preserved : goal.loop-k-preserved
-loop-k-preserved c = summed_turn c.loop-k.invariant (constraint_next _ c.loop-k-test.true) c.price_by-sum.ensures
+sum-requires-clause-fits c =
+    fits_from_chain (price_by c.args.x) (all_constraints c.map.ensures.source) c.map.ensures.closure (λ k r q h. search rules) (omega (arith, paying_bound c.requires.paying c.args.x c.requires.x_le_most_load))
 
 pub returns : goal.returns
 unfolding price
-returns c = summed_end c.loop-k.invariant (rw length_constraints c.loop-k-test.false)
+returns c = sum_from_chain (price_by c.args.x) (all_constraints c.map.ensures.source) c.map.ensures.closure (λ k r q h. search rules) c.sum.ensures.ran

@@ -1,37 +1,12 @@
--- The lost regions among those passed, with those among the rest, are all that are lost.
-use Prim.Native.Nat.{◌-◌}
-use native.Mathlib.Nat.{add-zero}
-use native.Mathlib.Omega.{arith}
-use mathlib.Core.Path.{sym, ap, ◌∙◌}
-use lib.ListN.{length}
-use Rattle.lists.specs.Sums.{bit, up_to}
-use Rattle.lists.specs.SumLaws.{length_from}
-use Rattle.lists.specs.Counts.{count-le}
-use Rattle.lists.specs.ListLaws.{drop-up_to}
-use Rattle.lists.specs.Loops.{summed_start, summed_room, summed_turn, summed_end}
-use Rattle.lists.specs.Passing.{length-passing}
-use Rattle.mending.specs.Mended.{is_lost}
-use Rattle.mending.specs.MendedLaws.{lost-at, kept_at}
+-- The sectors that are kept by the filter are those of the lost regions.
+use Rattle.std.specs.Prelude.{eqb}
+use Rattle.std.proofs.Common.{rules, tests, ◌∙◌}
+use Rattle.std.proofs.lemmas.Iterator.{YieldsList-from_slice}
+use Rattle.std.proofs.lemmas.Iterator.Consumers.{YieldsList-at, YieldsList-from_filter, count_from_yields_List}
+use Rattle.mending.specs.MendedLaws.{lost_counted}
 use Rattle.mending.proofs.count_lost.Goals as goal
 
-pub loop-i-init : goal.loop-i-init
-loop-i-init c = summed_start
-
-pub overflow_add-count : goal.overflow_add-count
-overflow_add-count c =
-    omega (
-      arith,
-      summed_room c.loop-i.invariant (drop-up_to _ c.loop-i.i c.loop-i-test.true) (sym (ap bit (lost-at c.args.survivors.now c.loop-i.i c.if-sector-eq0.true))),
-      count-le (length c.args.survivors.now) (is_lost c.args.survivors.now),
-    )
-
-pub loop-i-preserved-then-sector-eq0 : goal.loop-i-preserved-then-sector-eq0
-loop-i-preserved-then-sector-eq0 c = summed_turn c.loop-i.invariant (drop-up_to _ c.loop-i.i c.loop-i-test.true) (sym (ap bit (lost-at c.args.survivors.now c.loop-i.i c.if-sector-eq0.true)))
-
-pub loop-i-preserved : goal.loop-i-preserved
-loop-i-preserved c =
-    rw add-zero at
-    (summed_turn c.loop-i.invariant (drop-up_to _ c.loop-i.i c.loop-i-test.true) (sym (ap bit (kept_at c.args.survivors.now c.loop-i.i c.if-sector-eq0.false))))
-
 pub returns : goal.returns
-returns c = summed_end c.loop-i.invariant (rw (length_from 1 (length c.args.survivors.now)) c.loop-i-test.false) ∙ sym (length-passing (is_lost c.args.survivors.now) (up_to (length c.args.survivors.now)))
+returns c =
+    count_from_yields_List c.filter.result _ c.count.ensures.ran (YieldsList-from_filter _ (λ x. eqb x 0) (YieldsList-at c.filter.ensures.source (YieldsList-from_slice c.args.survivors.now cc)) c.filter.ensures.closure (λ x b q k. search (rules, tests)))
+    ∙ lost_counted c.args.survivors.now

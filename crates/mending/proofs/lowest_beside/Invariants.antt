@@ -4,6 +4,3 @@ use Rattle.mending.proofs.lowest_beside.Given as goal
 
 abbrev pub invariant-loop-k : goal.invariant-loop-k
 invariant-loop-k l = Sought l.edges l.colouring l.region.0 l.k l.lowest
-
-abbrev pub decreases-loop-k : goal.decreases-loop-k
-decreases-loop-k l = l.k

@@ -1,5 +1,4 @@
 -- What is passed has the sectors of the mended colouring, and each turn stores the next.
-use Prim.Native.Nat.{◌-◌}
 use mathlib.Core.Path.{◌≡◌}
 use lib.ListN.{length}
 use Rattle.lists.specs.Sums.{up_to}
@@ -10,6 +9,3 @@ use Rattle.mending.proofs.mend.Given as goal
 
 abbrev pub invariant-loop-i : goal.invariant-loop-i
 invariant-loop-i l = (length l.colouring ≡ length l.initial.colouring) × Mapped (sector_mended (edges_of l.edges) l.survivors) (up_to (length l.survivors)) l.i l.colouring
-
-abbrev pub decreases-loop-i : goal.decreases-loop-i
-decreases-loop-i l = length l.survivors - l.i

@@ -5,6 +5,3 @@ use Rattle.neighbours.proofs.count_edges.Given as goal
 
 abbrev pub invariant-loop-k : goal.invariant-loop-k
 invariant-loop-k l = Counted (length l.initial.counts) l.edges l.k l.counts
-
-abbrev pub decreases-loop-k : goal.decreases-loop-k
-decreases-loop-k l = l.k

@@ -5,6 +5,3 @@ use Rattle.neighbours.proofs.fill.Given as goal
 
 abbrev pub invariant-loop-k : goal.invariant-loop-k
 invariant-loop-k l = Filled (length l.initial.start) (length l.initial.near) l.edges l.k l.start l.near l.areas
-
-abbrev pub decreases-loop-k : goal.decreases-loop-k
-decreases-loop-k l = l.k

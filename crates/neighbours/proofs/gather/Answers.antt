@@ -1,15 +1,9 @@
 -- The counts add up to the ends of the rows, and the rows that are filled from their ends are the table.
 use native.Mathlib.Omega.{arith}
 use mathlib.Core.Path.{◌∙◌}
-use lib.ListN.{length}
-use Rattle.meaning.specs.Plan.{edges_of}
-use Rattle.neighbours.specs.Edges.{ends_more}
 use Rattle.neighbours.specs.Counts.{counted_sum}
 use Rattle.neighbours.specs.Rows.{filled_none, filled_table}
 use Rattle.neighbours.proofs.gather.Goals as goal
-
-pub count_edges-requires : goal.count_edges-requires
-count_edges-requires c = ends_more (length c.args.start.now) (edges_of c.args.edges.now) c.requires.ends
 
 pub add_up-requires : goal.add_up-requires
 add_up-requires c = omega (arith, counted_sum c.count_edges.ensures)

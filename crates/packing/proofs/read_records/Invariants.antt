@@ -1,9 +1,7 @@
--- The records that are left, put down after those that are, make all of them; each turn puts down the next.
+-- Of the records all but the first k are left, and put down after those they make all of them.
+use Rattle.std.proofs.Common.{◌+◌, ◌-◌, ◌*◌, length}
 use Rattle.packing.specs.Records.{RecordsRead}
 use Rattle.packing.proofs.read_records.Given as goal
 
-abbrev pub invariant-loop-left : goal.invariant-loop-left
-invariant-loop-left l = RecordsRead l.bytes l.widths l.count l.initial.out l.at l.left l.from l.to l.out
-
-abbrev pub decreases-loop-left : goal.decreases-loop-left
-decreases-loop-left l = l.left
+abbrev pub invariant-loop-k : goal.invariant-loop-k
+invariant-loop-k l = RecordsRead l.bytes l.shape.widths.now l.count l.initial.out l.at (l.count - l.k) (l.k * l.shape.stride) (l.at + l.k * length l.shape.widths.now) l.out

@@ -1,9 +1,7 @@
--- The records that are left, put down after those that are, make all of them; each turn puts down the next.
+-- Of the records all but the first k are left, and put down after those they make all of them.
+use Rattle.std.proofs.Common.{◌+◌, ◌-◌, ◌*◌, length}
 use Rattle.packing.specs.Records.{RecordsWritten}
 use Rattle.packing.proofs.write_records.Given as goal
 
-abbrev pub invariant-loop-left : goal.invariant-loop-left
-invariant-loop-left l = RecordsWritten l.widths l.numbers l.from l.count l.initial.bytes l.at l.left l.next l.to l.bytes
-
-abbrev pub decreases-loop-left : goal.decreases-loop-left
-decreases-loop-left l = l.left
+abbrev pub invariant-loop-k : goal.invariant-loop-k
+invariant-loop-k l = RecordsWritten l.shape.widths.now l.numbers 0 l.count l.initial.bytes l.at (l.count - l.k) (l.k * length l.shape.widths.now) (l.at + l.k * l.shape.stride) l.bytes

@@ -1,18 +1,12 @@
--- The rows on the moves and the room are taken in turn after the plan's refusal, which gives the call's.
-use Rattle.refusals.specs.Table.{room_table}
-use Rattle.refusals.specs.Turn.{in_turn, call_in_turn}
+-- The rows on the plan, then those on the moves and the room.
+use Rattle.refusals.specs.Table.{plan_table, plan_refusal, call_table, call_refusal}
+use Rattle.refusals.specs.Checked.{checked_stops, checked_goes_on}
 use Rattle.refusals.proofs.call_refusal.Goals as goal
 
+pub returns-in_err-plan_refusal : goal.returns-in_err-plan_refusal
+unfolding plan_table plan_refusal call_table call_refusal
+returns-in_err-plan_refusal c = checked_stops _ _ c.from_residual.ensures.1 c.in_err-plan_refusal.ensures
+
 pub returns : goal.returns
-unfolding room_table in_turn
-returns c =
-    rw (
-      c.unless-4.ensures,
-      c.room_for_work.ensures,
-      c.unless-3.ensures,
-      c.unless-2.ensures,
-      c.unless.ensures,
-      c.whole_records.ensures,
-      c.plan_refusal-of_plan.ensures,
-    )
-    (call_in_turn _)
+unfolding plan_table plan_refusal call_table call_refusal
+returns c = checked_goes_on _ _ tt c.in_ok-plan_refusal.ensures c.check_room.ensures

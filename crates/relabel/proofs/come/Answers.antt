@@ -1,7 +1,6 @@
 -- Where the labels beside the region are one only its own is new, and otherwise its component is labelled anew.
 use native.Mathlib.Omega.{arith}
 use mathlib.Core.Path.{refl, sym, ◌∙◌}
-use lib.ListN.{length-set}
 use Rattle.relabel.specs.Differing.{differing-set}
 use Rattle.relabel.specs.Lifting.{coming_size, coming_range, coming_still, coming_next, coming_end}
 use Rattle.relabel.proofs.come.Goals as goal
@@ -20,9 +19,6 @@ returns-then-beside-label c = record { colouring_after = refl; labels_after = co
 
 pub relabel_own-requires : goal.relabel_own-requires
 relabel_own-requires c = record { counting = coming_next c.requires; labels_len = coming_size c.requires }
-
-pub shape_of-colouring : goal.shape_of-colouring
-shape_of-colouring c = c.relabel_own.auto.colouring ∙ simp length-set
 
 pub returns : goal.returns
 returns c = record { colouring_after = c.relabel_own.ensures.colouring_unchanged; labels_after = coming_end c.requires c.relabel_own.ensures.renewed; value = c.relabel_own.ensures.renewed.number }

@@ -6,7 +6,4 @@ use Rattle.relabel.specs.Labelling.{Labelling}
 use Rattle.relabel.proofs.label_all.Given as goal
 
 abbrev pub invariant-loop-v : goal.invariant-loop-v
-invariant-loop-v l = Labelling (length l.start - 1) (edges_of l.edges) l.start l.near l.initial.colouring l.initial.queue l.colouring l.labels l.queue l.v
-
-abbrev pub decreases-loop-v : goal.decreases-loop-v
-decreases-loop-v l = length l.start - l.v
+invariant-loop-v l = Labelling (length l.faces.start.now - 1) (edges_of l.faces.edges.now) l.faces.start.now l.faces.near.now l.initial.colouring l.initial.queue l.colouring l.labels l.queue l.v

@@ -1,50 +1,40 @@
 -- Each turn takes in the label of the next neighbour if it has the sector, and after the last all are taken in.
 use Prim.Native.Nat.{◌-◌}
 use native.Mathlib.Omega.{arith}
-use Rattle.search.specs.Ranging.{rangeable_row, ranging_start, ranging_in, ranging_past, ranging_turn, ranging_end}
+use lib.ListN.{length, get_or}
+use Rattle.std.proofs.Common.{◌∙◌}
+use Rattle.std.proofs.Math.Nat.{add_assoc}
+use Rattle.lists.specs.Sums.{In, at}
+use Rattle.search.specs.Ranging.{larger, ranging_in, ranging_past, ranging_turn}
+use Rattle.relabel.specs.Part.{part, row_item}
 use Rattle.relabel.proofs.labels_beside.Goals as goal
+use Rattle.relabel.proofs.labels_beside.Goals.{then-colouring-z, else-colouring-z, In-loop-neighbour}
 
-pub loop-j-init : goal.loop-j-init
-loop-j-init c = ranging_start c.requires
-
-pub offset_bounds-near-j : goal.offset_bounds-near-j
-offset_bounds-near-j c = omega (arith, rangeable_row c.loop-j.invariant.given)
-
-pub bounds-near-j : goal.bounds-near-j
-bounds-near-j c = omega (arith, rangeable_row c.loop-j.invariant.given)
+-- what stands in the row is a region
+item_in : (c : In-loop-neighbour) → In (length c.args.faces.start.now - 1) (get_or (part (at c.args.faces.start.now c.args.region) (get_or c.args.faces.start.now c.args.region 0) c.args.faces.near.now) c.loop-neighbour.neighbour-index 0)
+item_in c =
+    let item = row_item c.requires.net c.requires.region c.loop-neighbour-test.true in
+    rw item.1 (ranging_in c.loop-neighbour.invariant item.0)
 
 pub overflow_sub-z : goal.overflow_sub-z
-overflow_sub-z c = omega (arith, ranging_in c.loop-j.invariant c.loop-j-test.true)
+overflow_sub-z c = omega (arith, item_in (goal.at.overflow_sub-z c).In-loop-neighbour)
 
 pub offset_bounds-colouring-z : goal.offset_bounds-colouring-z
-offset_bounds-colouring-z c = omega (arith, ranging_in c.loop-j.invariant c.loop-j-test.true, c.loop-j.invariant.given.sectors)
+offset_bounds-colouring-z c = omega (arith, item_in (goal.at.offset_bounds-colouring-z c).In-loop-neighbour, c.loop-neighbour.invariant.given.sectors)
 
 pub bounds-colouring-z : goal.bounds-colouring-z
-bounds-colouring-z c = omega (arith, ranging_in c.loop-j.invariant c.loop-j-test.true, c.loop-j.invariant.given.sectors)
+bounds-colouring-z c = omega (arith, item_in (goal.at.bounds-colouring-z c).In-loop-neighbour, c.loop-neighbour.invariant.given.sectors)
 
 pub offset_bounds-labels-z : goal.offset_bounds-labels-z
-offset_bounds-labels-z c = omega (arith, ranging_in c.loop-j.invariant c.loop-j-test.true, c.loop-j.invariant.given.labels)
+offset_bounds-labels-z c = omega (arith, item_in (goal.at.offset_bounds-labels-z c).In-loop-neighbour, c.loop-neighbour.invariant.given.labels)
 
 pub bounds-labels-z : goal.bounds-labels-z
-bounds-labels-z c = omega (arith, ranging_in c.loop-j.invariant c.loop-j-test.true, c.loop-j.invariant.given.labels)
+bounds-labels-z c = omega (arith, item_in (goal.at.bounds-labels-z c).In-loop-neighbour, c.loop-neighbour.invariant.given.labels)
 
-pub overflow_add-j : goal.overflow_add-j
-overflow_add-j c = omega (arith, c.loop-j-test.true, rangeable_row c.loop-j.invariant.given)
-
-pub loop-j-smaller-then-colouring-z : goal.loop-j-smaller-then-colouring-z
-loop-j-smaller-then-colouring-z c = omega (arith, c.loop-j-test.true)
-
-pub loop-j-preserved-then-colouring-z : goal.loop-j-preserved-then-colouring-z
-loop-j-preserved-then-colouring-z c = ranging_turn c.loop-j.invariant c.loop-j-test.true c.if-colouring-z.true c.lesser-low.ensures c.greater-high.ensures
-
-pub overflow_add-j-else-colouring-z : goal.overflow_add-j-else-colouring-z
-overflow_add-j-else-colouring-z c = omega (arith, c.loop-j-test.true, rangeable_row c.loop-j.invariant.given)
-
-pub loop-j-smaller : goal.loop-j-smaller
-loop-j-smaller c = omega (arith, c.loop-j-test.true)
-
-pub loop-j-preserved : goal.loop-j-preserved
-loop-j-preserved c = ranging_past c.loop-j.invariant c.loop-j-test.true c.if-colouring-z.false
-
-pub returns : goal.returns
-returns c = ranging_end c.loop-j.invariant c.loop-j-test.false
+pub loop-neighbour-preserved : goal.loop-neighbour-preserved
+loop-neighbour-preserved c =
+    let item = row_item c.requires.net c.requires.region c.loop-neighbour-test.true in
+    elim c.if-colouring-z.branch [
+      | then-colouring-z w ↦ rw (w.low-is, w.high-is, ← add_assoc) (ranging_turn c.loop-neighbour.invariant item.0 (rw item.1 at w.if-colouring-z.true) (rw item.1 at w.min-low.ensures) ((rw item.1 at w.max-high.ensures) ∙ larger _ _))
+      | else-colouring-z w ↦ rw (w.low-is, w.high-is, ← add_assoc) (ranging_past c.loop-neighbour.invariant item.0 (rw item.1 at w.if-colouring-z.false))
+    ]

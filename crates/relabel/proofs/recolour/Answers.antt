@@ -2,34 +2,18 @@
 use Prim.Native.Nat.{ℕ}
 use native.Mathlib.Omega.{arith}
 use mathlib.Core.Path.{ap, ◌∙◌}
-use lib.ListN.{length-set}
 use mathlib.Core.List.{List}
 use Rattle.meaning.specs.Faces.{lift}
-use Rattle.relabel.specs.Recolouring.{recolouring_leave, recolouring-put, recolouring_come, recolouring_end}
+use Rattle.relabel.specs.Recolouring.{recolouring_leave, recolouring-put, recolouring_end}
 use Rattle.relabel.proofs.recolour.Goals as goal
-
-pub pieces_at-pieces-requires : goal.pieces_at-pieces-requires
-pieces_at-pieces-requires c = record { net = c.requires.net; ready = c.requires.ready; region = c.requires.region }
-
-pub bounds-colouring-z-2 : goal.bounds-colouring-z-2
-bounds-colouring-z-2 c = omega (arith, c.pieces_at-pieces.auto.colouring, c.requires.ready.size, c.requires.region)
 
 pub leave-left-requires : goal.leave-left-requires
 leave-left-requires c = recolouring_leave c.requires (ap (λ (l : List ℕ). lift l c.args.region) c.pieces_at-pieces.ensures.colouring_unchanged) _ c.pieces_at-pieces.auto.queue c.pieces_at-pieces.ensures.value
-
-pub come-requires : goal.come-requires
-come-requires c =
-    let e = ap (λ (l : List ℕ). lift l c.args.region) c.pieces_at-pieces.ensures.colouring_unchanged in
-    let q = c.leave-left.auto.queue ∙ c.pieces_at-pieces.auto.queue in
-    recolouring_come c.requires e c.leave-left.ensures.labels_after c.leave-left.ensures.colouring_unchanged _ q
 
 pub overflow_add-relabelled : goal.overflow_add-relabelled
 overflow_add-relabelled c =
     let e = ap (λ (l : List ℕ). lift l c.args.region) c.pieces_at-pieces.ensures.colouring_unchanged in
     omega (arith, (recolouring_end c.requires e c.leave-left.ensures.labels_after c.leave-left.ensures.colouring_unchanged c.leave-left.ensures.value c.come.ensures.labels_after c.come.ensures.value).few, c)
-
-pub shape_of-colouring : goal.shape_of-colouring
-shape_of-colouring c = c.come.auto.colouring ∙ c.leave-left.auto.colouring ∙ simp length-set c.pieces_at-pieces.auto.colouring
 
 pub returns : goal.returns
 returns c =

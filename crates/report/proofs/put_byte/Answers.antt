@@ -1,6 +1,5 @@
 -- The store puts the byte down.
-use native.Mathlib.Omega.{arith}
-use mathlib.Core.Path.{refl}
+use Rattle.std.proofs.Common.{arith, refl}
 use Rattle.packing.specs.Put.{set-put}
 use Rattle.report.proofs.put_byte.Goals as goal
 

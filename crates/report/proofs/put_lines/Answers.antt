@@ -1,36 +1,31 @@
 -- The lines of the numbers so far are put down, and each turn puts down the next where they end; the longest numbers have room.
-use Prim.Native.Nat.{ℕ, suc, ◌*◌, ◌≤◌}
-use native.Mathlib.Nat.{le_trans}
-use native.Mathlib.Numerals.{add-one}
-use native.Mathlib.Omega.{arith}
-use lib.ListN.{length, take, length-append}
-use lib.Seq.{take_all}
+use Rattle.std.proofs.Common.{ℕ, suc, ◌*◌, ◌≤◌, length, take, arith, le_trans, add-one, length-append}
 use Rattle.report.specs.Placed.{placed-none, placed-length, placed_then}
 use Rattle.report.specs.Text.{number_lines, most_number}
 use Rattle.report.specs.TextLaws.{number-lines-next, number-lines-front, number-lines-length}
 use Rattle.report.proofs.put_lines.Goals as goal
-use Rattle.report.proofs.put_lines.Goals.{At-loop-k}
+use Rattle.report.proofs.put_lines.Goals.{At-loop-number}
 
 -- the lines of the first k numbers have room
-front : (c : At-loop-k) (k : ℕ) → length (number_lines (take k c.args.numbers.now)) ≤ most_number * length c.args.numbers.now
+front : (c : At-loop-number) (k : ℕ) → length (number_lines (take k c.args.numbers.now)) ≤ most_number * length c.args.numbers.now
 front c k =
     let numbers = c.args.numbers.now in
     le_trans (number-lines-front numbers k) (number-lines-length numbers (record { each = λ i. (c.type_inv.numbers i).fits }))
 
-pub loop-k-init : goal.loop-k-init
+pub loop-number-init : goal.loop-number-init
 unfolding number_lines
-loop-k-init c = (omega arith, placed-none (omega (arith, c.requires)))
+loop-number-init c = placed-none (omega (arith, c.requires))
 
 pub put_number-end-requires : goal.put_number-end-requires
 put_number-end-requires c =
-    let up-to-next = rw (← number-lines-next c.args.numbers.now c.loop-k.k (omega arith), length-append) at (front (goal.at.put_number-end-requires c).At-loop-k (suc c.loop-k.k)) in
-    omega (arith, c.requires, c.loop-k.invariant.1.ends, placed-length c.loop-k.invariant.1, up-to-next)
+    let l = c.loop-number in
+    let up-to-next = rw (← number-lines-next c.args.numbers.now l.number-index (omega arith), length-append) at (front (goal.at.put_number-end-requires c).At-loop-number (suc l.number-index)) in
+    omega (arith, c.requires, l.invariant.ends, placed-length l.invariant, up-to-next)
 
-pub loop-k-preserved : goal.loop-k-preserved
-loop-k-preserved c = (omega arith, rw (add-one c.loop-k.k, ← number-lines-next c.args.numbers.now c.loop-k.k (omega arith)) (placed_then c.loop-k.invariant.1 c.put_number-end.ensures))
+pub loop-number-preserved : goal.loop-number-preserved
+loop-number-preserved c =
+    let l = c.loop-number in
+    rw (add-one l.number-index, ← number-lines-next c.args.numbers.now l.number-index (omega arith)) (placed_then l.invariant c.put_number-end.ensures)
 
-pub shape_of-text : goal.shape_of-text
-shape_of-text c = placed-length c.loop-k.invariant.1
-
-pub returns : goal.returns
-returns c = record { placed = rw (take_all c.loop-k.k c.args.numbers.now c.loop-k-test.false) at c.loop-k.invariant.1; upper_bound = omega (arith, c.loop-k.invariant.1.ends, front (goal.at.returns c).At-loop-k c.loop-k.k) }
+pub returns-clause-upper_bound : goal.returns-clause-upper_bound
+returns-clause-upper_bound c = omega (arith, c.loop-number.invariant.ends, front (goal.at.returns-clause-upper_bound c).At-loop-number c.loop-number.number-index)

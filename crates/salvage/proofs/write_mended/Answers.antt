@@ -1,24 +1,12 @@
 -- What survives is mended in the front of an array, and the colouring's blocks are written with it.
 use mathlib.Core.Path.{sym, ◌∙◌}
-use Rattle.lists.specs.Fronts.{zeros, back_room, take_back, back_length}
+use Rattle.lists.specs.Fronts.{zeros, take_back, back_length}
 use Rattle.meaning.specs.Plan.{most_regions}
 use Rattle.salvage.specs.Steps.{regions_room, regions_lent, length_surviving, written-mended}
 use Rattle.salvage.proofs.write_mended.Goals as goal
 
-pub slice_bounds-room-end : goal.slice_bounds-room-end
-slice_bounds-room-end c = regions_room c.requires.mendable.opened c.requires.mendable.head
-
-pub slice_bounds-mend-end : goal.slice_bounds-mend-end
-slice_bounds-mend-end c = sym (regions_lent c.requires.mendable.opened c.requires.mendable.head)
-
 pub mend-requires : goal.mend-requires
 mend-requires c = record { ends = c.requires.mendable.ends; colouring_len = regions_lent c.requires.mendable.opened c.requires.mendable.head ∙ sym (length_surviving c.requires.mendable) }
-
-pub slice_bounds-room-end-2 : goal.slice_bounds-room-end-2
-slice_bounds-room-end-2 c = back_room c.args.head.regions (zeros most_regions) (regions_room c.requires.mendable.opened c.requires.mendable.head) c.mend.new.colouring c.mend.auto.colouring
-
-pub slice_bounds-write_anew-end : goal.slice_bounds-write_anew-end
-slice_bounds-write_anew-end c = sym (back_length c.args.head.regions (zeros most_regions) (regions_room c.requires.mendable.opened c.requires.mendable.head) c.mend.new.colouring c.mend.auto.colouring)
 
 pub write_anew-requires : goal.write_anew-requires
 write_anew-requires c = record { opened = (c.requires.mendable.opened, c.requires.mendable.head); sheet_in_bounds = (c.requires.sheet_in_bounds, back_length c.args.head.regions (zeros most_regions) (regions_room c.requires.mendable.opened c.requires.mendable.head) c.mend.new.colouring c.mend.auto.colouring) }

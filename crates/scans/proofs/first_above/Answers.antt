@@ -1,19 +1,12 @@
--- A scan: a turn passes an item that is right, or stops at the first that is not.
-use Prim.Native.Nat.{◌-◌}
-use mathlib.Core.Path.{refl, sym}
-use borrow.Author.Tests.{le-leb, lt-leb}
-use borrow.Author.Rules.{rules}
-use Rattle.scans.proofs.Scan.{scan_start, scan_next, scan_here, scan_end}
+-- The first number that the test passes is the first that is not right.
+use Rattle.std.specs.Prelude.{not, leb}
+use Rattle.std.proofs.Common.{rules, tests}
+use Rattle.std.proofs.lemmas.Iterator.{YieldsList-from_slice}
+use Rattle.std.proofs.lemmas.Iterator.Search.{position_from_yields_List}
+use Rattle.scans.proofs.Positions.{place_of_number}
 use Rattle.scans.proofs.first_above.Goals as goal
 
-pub loop-k-init : goal.loop-k-init
-loop-k-init c = scan_start _ _
-
-pub returns-then-most-numbers : goal.returns-then-most-numbers
-returns-then-most-numbers c = scan_here _ _ _ _ (sym (lt-leb _ _ c.if-most-numbers.true)) refl (search rules) c.loop-k.invariant
-
-pub loop-k-preserved : goal.loop-k-preserved
-loop-k-preserved c = scan_next _ _ _ _ (sym (le-leb _ _ c.if-most-numbers.false)) refl (search rules) c.loop-k.invariant
-
 pub returns : goal.returns
-returns c = scan_end _ _ _ c.loop-k-test.false c.loop-k.invariant
+returns c =
+    place_of_number (λ x. leb x c.args.most) _
+    (position_from_yields_List (λ x. not (leb x c.args.most)) _ _ _ c.position.ensures.ran (YieldsList-from_slice c.args.numbers.now cc) (λ x b q k. search (rules, tests)))

@@ -1,20 +1,14 @@
--- A scan: a turn passes an item that is right, or stops at the first that is not.
-use Prim.Native.Nat.{◌-◌}
-use borrow.Author.Rules.{rules}
+-- The first index that the test passes is that of the first item that is not right.
+use Rattle.std.specs.Prelude.{not, ◌/◌, length}
+use Rattle.std.proofs.Common.{rules, tests}
+use Rattle.std.proofs.lemmas.Iterator.{YieldsList-from_range}
+use Rattle.std.proofs.lemmas.Iterator.Search.{position_from_yields_List}
+use Rattle.meaning.specs.Plan.{edge_length}
 use Rattle.scans.specs.Items.{edge_right}
-use Rattle.scans.proofs.Scan.{scan_start, scan_next, scan_here, scan_end}
-use Rattle.std.proofs.Common.{ap}
-use Rattle.std.proofs.Math.Bool.{not}
+use Rattle.scans.proofs.Positions.{place_in_range}
 use Rattle.scans.proofs.first_bad_edge.Goals as goal
 
-pub loop-edge-init : goal.loop-edge-init
-loop-edge-init c = scan_start _ _
-
-pub returns-then-not-edge_right : goal.returns-then-not-edge_right
-returns-then-not-edge_right c = scan_here _ _ _ _ c.edge_right.ensures (ap not c.if-not-edge_right.true) (search rules) c.loop-edge.invariant
-
-pub loop-edge-preserved : goal.loop-edge-preserved
-loop-edge-preserved c = scan_next _ _ _ _ c.edge_right.ensures (ap not c.if-not-edge_right.false) (search rules) c.loop-edge.invariant
-
 pub returns : goal.returns
-returns c = scan_end _ _ _ c.loop-edge-test.false c.loop-edge.invariant
+returns c =
+    place_in_range (edge_right c.args.regions c.args.edges.now) _
+    (position_from_yields_List (λ k. not (edge_right c.args.regions c.args.edges.now k)) _ _ _ c.position.ensures.ran (YieldsList-from_range 0 (length c.args.edges.now / edge_length) _ (cc) (search rules)) (λ x b q k. search (rules, tests)))

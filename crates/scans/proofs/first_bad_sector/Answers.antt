@@ -1,19 +1,13 @@
--- A scan: a turn passes an item that is right, or stops at the first that is not.
-use Prim.Native.Nat.{◌-◌}
-use borrow.Author.Rules.{rules}
-use Rattle.scans.proofs.Scan.{scan_start, scan_next, scan_here, scan_end}
-use Rattle.std.proofs.Common.{ap}
-use Rattle.std.proofs.Math.Bool.{not}
+-- The first number that the test passes is the first that is not right.
+use Rattle.std.specs.Prelude.{not}
+use Rattle.std.proofs.Common.{rules, tests}
+use Rattle.std.proofs.lemmas.Iterator.{YieldsList-from_slice}
+use Rattle.std.proofs.lemmas.Iterator.Search.{position_from_yields_List}
+use Rattle.terms.specs.Plan.{within}
+use Rattle.scans.proofs.Positions.{place_of_number}
 use Rattle.scans.proofs.first_bad_sector.Goals as goal
 
-pub loop-region-init : goal.loop-region-init
-loop-region-init c = scan_start _ _
-
-pub returns-then-not-in_limits : goal.returns-then-not-in_limits
-returns-then-not-in_limits c = scan_here _ _ _ _ c.in_limits.ensures (ap not c.if-not-in_limits.true) (search rules) c.loop-region.invariant
-
-pub loop-region-preserved : goal.loop-region-preserved
-loop-region-preserved c = scan_next _ _ _ _ c.in_limits.ensures (ap not c.if-not-in_limits.false) (search rules) c.loop-region.invariant
-
 pub returns : goal.returns
-returns c = scan_end _ _ _ c.loop-region-test.false c.loop-region.invariant
+returns c =
+    place_of_number (λ x. within 1 x c.args.sectors) _
+    (position_from_yields_List (λ x. not (within 1 x c.args.sectors)) _ _ _ c.position.ensures.ran (YieldsList-from_slice c.args.colouring.now cc) (λ x b q k. search (rules, tests)))

@@ -1,19 +1,14 @@
--- A turn passes a visit that is right, or stops at one that is not.
-use Prim.Native.Nat.{◌-◌}
-use borrow.Author.Rules.{rules}
-use Rattle.scans.proofs.Visits.{checked_start, checked_next, checked_wrong, checked_end}
-use Rattle.std.proofs.Common.{ap}
-use Rattle.std.proofs.Math.Bool.{not}
+-- Each index of a visit passes the test, or one fails.
+use Rattle.std.specs.Prelude.{◌/◌, length}
+use Rattle.std.proofs.Common.{rules, tests, ◌∙◌}
+use Rattle.std.proofs.lemmas.Iterator.{YieldsList-from_range}
+use Rattle.std.proofs.lemmas.Iterator.Search.{all_from_yields_List}
+use Rattle.meaning.specs.Plan.{visit_length, visit_at, visits_of}
+use Rattle.scans.proofs.Visits.{fits, visits_listed}
 use Rattle.scans.proofs.flight_right.Goals as goal
 
-pub loop-visit-init : goal.loop-visit-init
-loop-visit-init c = checked_start _ _
-
-pub returns-then-not-visit_right : goal.returns-then-not-visit_right
-returns-then-not-visit_right c = checked_wrong _ _ _ _ c.visit_right.ensures (search rules) c.loop-visit.invariant (ap not c.if-not-visit_right.true)
-
-pub loop-visit-preserved : goal.loop-visit-preserved
-loop-visit-preserved c = checked_next _ _ _ _ c.visit_right.ensures (search rules) c.loop-visit.invariant (ap not c.if-not-visit_right.false)
-
 pub returns : goal.returns
-returns c = checked_end _ _ _ c.loop-visit-test.false c.loop-visit.invariant
+unfolding visits_of
+returns c =
+    all_from_yields_List (λ k. fits c.args.regions (visit_at c.args.visits.now k)) _ _ _ c.all.ensures.ran (YieldsList-from_range 0 (length c.args.visits.now / visit_length) (length c.args.visits.now / visit_length) (cc) (search rules)) (λ x b q k. search (rules, tests))
+    ∙ visits_listed c.args.regions 0 _ (visit_at c.args.visits.now)

@@ -1,42 +1,14 @@
 -- The loop goes through the row up to place j, and its two sums with what comes after make the whole areas.
-use Prim.Native.Nat.{◌-◌}
 use native.Mathlib.Omega.{arith}
 use Rattle.meaning.specs.Faces.{area_to}
-use Rattle.search.specs.Weighing.{weighable_row, weighing_start, weighing_in, weighing_turn, weighing_fits, weighing_end}
+use Rattle.search.specs.Weighing.{weighing_start, weighing_in, weighing_turn, weighing_fits, weighing_end}
 use Rattle.search.proofs.areas_of.Goals as goal
-
-pub offset_bounds-start-region : goal.offset_bounds-start-region
-offset_bounds-start-region c = omega (arith, weighable_row c.requires.weighable)
-
-pub bounds-start-region : goal.bounds-start-region
-bounds-start-region c = omega (arith, weighable_row c.requires.weighable)
-
-pub overflow_sub-j : goal.overflow_sub-j
-overflow_sub-j c = omega (arith, weighable_row c.requires.weighable)
-
-pub offset_bounds-start-region-2 : goal.offset_bounds-start-region-2
-offset_bounds-start-region-2 c = omega (arith, weighable_row c.requires.weighable)
-
-pub bounds-start-region-2 : goal.bounds-start-region-2
-bounds-start-region-2 c = omega (arith, weighable_row c.requires.weighable)
 
 pub loop-j-init : goal.loop-j-init
 loop-j-init c = (weighing_start c.requires.weighable, weighing_start c.requires.weighable)
 
-pub offset_bounds-near-j : goal.offset_bounds-near-j
-offset_bounds-near-j c = omega (arith, weighable_row c.loop-j.invariant.0.given)
-
-pub bounds-near-j : goal.bounds-near-j
-bounds-near-j c = omega (arith, weighable_row c.loop-j.invariant.0.given)
-
 pub overflow_sub-z : goal.overflow_sub-z
 overflow_sub-z c = omega (arith, weighing_in c.loop-j.invariant.0 c.loop-j-test.true)
-
-pub offset_bounds-areas-j : goal.offset_bounds-areas-j
-offset_bounds-areas-j c = omega (arith, weighable_row c.loop-j.invariant.0.given, c.loop-j.invariant.0.given.table.same)
-
-pub bounds-areas-j : goal.bounds-areas-j
-bounds-areas-j c = omega (arith, weighable_row c.loop-j.invariant.0.given, c.loop-j.invariant.0.given.table.same)
 
 pub offset_bounds-colouring-z : goal.offset_bounds-colouring-z
 offset_bounds-colouring-z c = omega (arith, weighing_in c.loop-j.invariant.0 c.loop-j-test.true, c.loop-j.invariant.0.given.size)
@@ -55,12 +27,6 @@ part-there-requires c = record { shown_bound = omega (arith, c.requires.comparab
 
 pub overflow_add-there : goal.overflow_add-there
 overflow_add-there c = omega (arith, weighing_fits c.loop-j.invariant.1 c.loop-j-test.true c.part-there.ensures)
-
-pub overflow_add-j : goal.overflow_add-j
-overflow_add-j c = omega (arith, weighable_row c.loop-j.invariant.0.given, c.loop-j-test.true)
-
-pub loop-j-smaller : goal.loop-j-smaller
-loop-j-smaller c = omega (arith, c.loop-j-test.true)
 
 pub loop-j-preserved : goal.loop-j-preserved
 loop-j-preserved c = (weighing_turn c.loop-j.invariant.0 c.loop-j-test.true c.part-here.ensures, weighing_turn c.loop-j.invariant.1 c.loop-j-test.true c.part-there.ensures)

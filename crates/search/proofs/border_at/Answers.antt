@@ -1,41 +1,13 @@
 -- The loop goes through the row up to place j, and its sum with what comes after makes the whole area.
-use Prim.Native.Nat.{◌-◌}
 use native.Mathlib.Omega.{arith}
-use Rattle.search.specs.Weighing.{weighable_row, weighing_start, weighing_in, weighing_turn, weighing_fits, weighing_end}
+use Rattle.search.specs.Weighing.{weighing_start, weighing_in, weighing_turn, weighing_fits, weighing_end}
 use Rattle.search.proofs.border_at.Goals as goal
-
-pub offset_bounds-start-region : goal.offset_bounds-start-region
-offset_bounds-start-region c = omega (arith, weighable_row c.requires.weighable)
-
-pub bounds-start-region : goal.bounds-start-region
-bounds-start-region c = omega (arith, weighable_row c.requires.weighable)
-
-pub overflow_sub-j : goal.overflow_sub-j
-overflow_sub-j c = omega (arith, weighable_row c.requires.weighable)
-
-pub offset_bounds-start-region-2 : goal.offset_bounds-start-region-2
-offset_bounds-start-region-2 c = omega (arith, weighable_row c.requires.weighable)
-
-pub bounds-start-region-2 : goal.bounds-start-region-2
-bounds-start-region-2 c = omega (arith, weighable_row c.requires.weighable)
 
 pub loop-j-init : goal.loop-j-init
 loop-j-init c = weighing_start c.requires.weighable
 
-pub offset_bounds-near-j : goal.offset_bounds-near-j
-offset_bounds-near-j c = omega (arith, weighable_row c.loop-j.invariant.given)
-
-pub bounds-near-j : goal.bounds-near-j
-bounds-near-j c = omega (arith, weighable_row c.loop-j.invariant.given)
-
 pub overflow_sub-z : goal.overflow_sub-z
 overflow_sub-z c = omega (arith, weighing_in c.loop-j.invariant c.loop-j-test.true)
-
-pub offset_bounds-areas-j : goal.offset_bounds-areas-j
-offset_bounds-areas-j c = omega (arith, weighable_row c.loop-j.invariant.given, c.loop-j.invariant.given.table.same)
-
-pub bounds-areas-j : goal.bounds-areas-j
-bounds-areas-j c = omega (arith, weighable_row c.loop-j.invariant.given, c.loop-j.invariant.given.table.same)
 
 pub offset_bounds-colouring-z : goal.offset_bounds-colouring-z
 offset_bounds-colouring-z c = omega (arith, weighing_in c.loop-j.invariant c.loop-j-test.true, c.loop-j.invariant.given.size)
@@ -52,12 +24,6 @@ overflow_add-sum c =
       arith,
       weighing_fits c.loop-j.invariant c.loop-j-test.true c.part_elsewhere-sum.ensures,
     )
-
-pub overflow_add-j : goal.overflow_add-j
-overflow_add-j c = omega (arith, weighable_row c.loop-j.invariant.given, c.loop-j-test.true)
-
-pub loop-j-smaller : goal.loop-j-smaller
-loop-j-smaller c = omega (arith, c.loop-j-test.true)
 
 pub loop-j-preserved : goal.loop-j-preserved
 loop-j-preserved c = weighing_turn c.loop-j.invariant c.loop-j-test.true c.part_elsewhere-sum.ensures

@@ -2,14 +2,11 @@
 use Prim.Native.Nat.{◌-◌}
 use mathlib.Core.Bool.{not}
 use lib.Dec.{eqb}
-use lib.ListN.{length, get_or}
+use lib.ListN.{length}
 use Rattle.lists.specs.Sums.{at}
 use Rattle.meaning.specs.Plan.{edges_of}
 use Rattle.search.specs.Weighing.{Weighing}
 use Rattle.search.proofs.border_at.Given as goal
 
 abbrev pub invariant-loop-j : goal.invariant-loop-j
-invariant-loop-j l = Weighing (length l.start - 1) (edges_of l.edges) l.start l.near l.areas l.colouring l.region (λ w. not (eqb (at l.colouring w) l.own)) l.sum l.j
-
-abbrev pub decreases-loop-j : goal.decreases-loop-j
-decreases-loop-j l = get_or l.start l.region 0 - l.j
+invariant-loop-j l = Weighing (length l.faces.start.now - 1) (edges_of l.faces.edges.now) l.faces.start.now l.faces.near.now l.faces.areas.now l.colouring l.region (λ w. not (eqb (at l.colouring w) l.own)) l.sum l.j

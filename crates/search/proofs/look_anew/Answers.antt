@@ -1,10 +1,6 @@
 -- What the region meets and its pieces are what a look finds.
-use mathlib.Core.Path.{◌∙◌}
-use Rattle.search.specs.Looking.{looked_both, looking_lifting}
+use Rattle.search.specs.Looking.{looking_lifting}
 use Rattle.search.proofs.look_anew.Goals as goal
 
 pub pieces_at-left-requires : goal.pieces_at-left-requires
 pieces_at-left-requires c = looking_lifting c.requires c.meet_anew-met.ensures.colouring_unchanged c.meet_anew-met.auto.queue
-
-pub returns : goal.returns
-returns c = record { looked = looked_both c.meet_anew-met.ensures.colouring_unchanged c.meet_anew-met.ensures.meets c.pieces_at-left.ensures.value; colouring_unchanged = c.pieces_at-left.ensures.colouring_unchanged ∙ c.meet_anew-met.ensures.colouring_unchanged }

@@ -2,16 +2,13 @@
 use mathlib.Core.Path.{refl, ◌∙◌}
 use Rattle.neighbours.specs.Net.{table_net}
 use Rattle.search.specs.Touches.{beside_few}
-use Rattle.search.specs.Looking.{looking_counting, looking_weighable, looking_comparable, looking_meets}
+use Rattle.search.specs.Looking.{looking_counting, looking_meets}
 use Rattle.search.proofs.meet.Goals as goal
-
-pub survey-seen-requires : goal.survey-seen-requires
-survey-seen-requires c = record { weighable = looking_weighable c.requires.looking refl; comparable = looking_comparable c.requires.looking refl; labels_value = c.requires.labels_value }
 
 pub returns-then-seen : goal.returns-then-seen
 returns-then-seen c =
     let few = beside_few _ (table_net c.requires.looking.table) c.requires.looking.size c.requires.labels_value c.survey-seen.ensures.ranged c.if-seen.true in
-    record { meets = looking_meets c.requires.looking refl (c.lesser.ensures ∙ few) (c.survey-seen.ensures.here_value, c.survey-seen.ensures.there_value); colouring_unchanged = refl }
+    record { meets = looking_meets c.requires.looking refl (c.min.ensures ∙ few) (c.survey-seen.ensures.here_value, c.survey-seen.ensures.there_value); colouring_unchanged = refl }
 
 pub touching-joined-requires : goal.touching-joined-requires
 touching-joined-requires c = record { counting = looking_counting c.requires.looking; labels_value = c.requires.labels_value }

@@ -1,60 +1,34 @@
 -- The loop goes through the row up to place j: its two sums with what comes after make the whole areas, and the labels so far lie between low and high.
 use Prim.Native.Nat.{◌-◌, ◌≤◌, ◌<◌}
 use native.Mathlib.Omega.{arith}
+use Rattle.std.proofs.Common.{◌∙◌}
 use lib.ListN.{length, get_or}
 use Rattle.lists.specs.Sums.{In, at}
 use Rattle.meaning.specs.Faces.{area_to}
 use Rattle.neighbours.specs.Net.{table_net}
-use Rattle.search.specs.Ranging.{ranging_start, ranging_room, ranging_either, ranging_end}
+use Rattle.search.specs.Ranging.{larger, ranging_start, ranging_either, ranging_end}
 use Rattle.search.specs.Touches.{label_le, label_range}
-use Rattle.search.specs.Weighing.{weighable_row, weighing_start, weighing_in, weighing_turn, weighing_fits, weighing_end}
+use Rattle.search.specs.Weighing.{weighing_start, weighing_in, weighing_turn, weighing_fits, weighing_end}
 use Rattle.search.proofs.survey.Goals as goal
 use Rattle.search.proofs.survey.Goals.{In-loop-j}
 
 -- the next neighbour is a region
-next : (c : In-loop-j) → In (length c.args.start.now - 1) (get_or c.args.near.now c.loop-j.j 0)
+next : (c : In-loop-j) → In (length c.args.faces.start.now - 1) (get_or c.args.faces.near.now c.loop-j.j 0)
 next c = weighing_in c.loop-j.invariant.0 c.loop-j-test.true
 
 -- what it shows may be compared with a sector
-shown-low : (c : In-loop-j) → at c.args.colouring.now (get_or c.args.near.now c.loop-j.j 0) < 256
+shown-low : (c : In-loop-j) → at c.args.colouring.now (get_or c.args.faces.near.now c.loop-j.j 0) < 256
 shown-low c = omega (arith, c.requires.comparable.shown _ (next c))
 
 -- its label is not above the number of regions
-label-low : (c : In-loop-j) → at c.args.labels.now (get_or c.args.near.now c.loop-j.j 0) ≤ length c.args.colouring.now
+label-low : (c : In-loop-j) → at c.args.labels.now (get_or c.args.faces.near.now c.loop-j.j 0) ≤ length c.args.colouring.now
 label-low c = label_le _ (table_net c.requires.weighable.table) c.requires.weighable.size c.requires.labels_value (next c)
-
-pub offset_bounds-start-region : goal.offset_bounds-start-region
-offset_bounds-start-region c = omega (arith, weighable_row c.requires.weighable)
-
-pub bounds-start-region : goal.bounds-start-region
-bounds-start-region c = omega (arith, weighable_row c.requires.weighable)
-
-pub overflow_sub-j : goal.overflow_sub-j
-overflow_sub-j c = omega (arith, weighable_row c.requires.weighable)
-
-pub offset_bounds-start-region-2 : goal.offset_bounds-start-region-2
-offset_bounds-start-region-2 c = omega (arith, weighable_row c.requires.weighable)
-
-pub bounds-start-region-2 : goal.bounds-start-region-2
-bounds-start-region-2 c = omega (arith, weighable_row c.requires.weighable)
 
 pub loop-j-init : goal.loop-j-init
 loop-j-init c = (weighing_start c.requires.weighable, (weighing_start c.requires.weighable, ranging_start (label_range _ (table_net c.requires.weighable.table) c.requires.weighable.size c.requires.labels_value c.requires.weighable.region)))
 
-pub offset_bounds-near-j : goal.offset_bounds-near-j
-offset_bounds-near-j c = omega (arith, weighable_row c.requires.weighable)
-
-pub bounds-near-j : goal.bounds-near-j
-bounds-near-j c = omega (arith, weighable_row c.requires.weighable, c.loop-j-test.true)
-
 pub overflow_sub-z : goal.overflow_sub-z
 overflow_sub-z c = omega (arith, next (goal.at.overflow_sub-z c).In-loop-j)
-
-pub offset_bounds-areas-j : goal.offset_bounds-areas-j
-offset_bounds-areas-j c = omega (arith, weighable_row c.requires.weighable, c.requires.weighable.table.same)
-
-pub bounds-areas-j : goal.bounds-areas-j
-bounds-areas-j c = omega (arith, weighable_row c.requires.weighable, c.requires.weighable.table.same)
 
 pub offset_bounds-colouring-z : goal.offset_bounds-colouring-z
 offset_bounds-colouring-z c = omega (arith, next (goal.at.offset_bounds-colouring-z c).In-loop-j, c.requires.weighable.size)
@@ -86,29 +60,15 @@ overflow_sub-top c = label-low (goal.at.overflow_sub-top c).In-loop-j
 pub part-requires : goal.part-requires
 part-requires c = record { shown_bound = shown-low (goal.at.part-requires c).In-loop-j; sector_bound = omega (arith, c.requires.comparable.other) }
 
-pub overflow_sub-top-in-loop-j : goal.overflow_sub-top-in-loop-j
-overflow_sub-top-in-loop-j c = ranging_room c.loop-j.invariant.1.1 c.loop-j-test.true c.part.ensures
-
 pub part-requires-in-loop-j : goal.part-requires-in-loop-j
 part-requires-in-loop-j c = record { shown_bound = shown-low (goal.at.part-requires-in-loop-j c).In-loop-j; sector_bound = omega (arith, c.requires.comparable.other) }
-
-pub overflow_add-j : goal.overflow_add-j
-overflow_add-j c =
-    omega (
-      arith,
-      weighable_row c.requires.weighable,
-      c.loop-j-test.true,
-    )
-
-pub loop-j-smaller : goal.loop-j-smaller
-loop-j-smaller c = omega (arith, c.loop-j-test.true)
 
 pub loop-j-preserved : goal.loop-j-preserved
 loop-j-preserved c = (
   weighing_turn c.loop-j.invariant.0 c.loop-j-test.true c.part-here.ensures,
   (
     weighing_turn c.loop-j.invariant.1.0 c.loop-j-test.true c.part-there.ensures,
-    ranging_either c.loop-j.invariant.1.1 c.loop-j-test.true (label-low (goal.at.loop-j-preserved c).In-loop-j) c.part.ensures c.part-in-loop-j.ensures c.lesser-low.ensures c.greater-high.ensures,
+    ranging_either c.loop-j.invariant.1.1 c.loop-j-test.true (label-low (goal.at.loop-j-preserved c).In-loop-j) c.part.ensures c.part-in-loop-j.ensures c.min-low.ensures (c.max-high.ensures ∙ larger _ _),
   ),
 )
 

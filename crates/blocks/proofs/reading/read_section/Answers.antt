@@ -1,43 +1,37 @@
--- The records that are left, put down after those that are, make all of them; each turn puts down those of the next block.
-use native.Mathlib.Omega.{arith}
-use borrow.Author.Rules.{rules}
+-- Each turn puts down the records of the next block.
+use Rattle.std.proofs.Common.{◌<◌, arith}
 use Rattle.blocks.specs.Shown.{part_payload}
-use Rattle.blocks.specs.Whole.{whole_small, whole_some}
-use Rattle.blocks.specs.SectionRead.{section-read_start, section-read_block, section-read_room, section-read_long, section-read_turn, section-read-after, section-read_end}
+use Rattle.blocks.specs.Whole.{whole_small}
+use Rattle.blocks.specs.SectionRead.{section-read_start, section-read-some, section-read-none, section-read_room, section-read_long, section-read_turn, section-read_end}
 use Rattle.blocks.proofs.reading.read_section.Goals as goal
+use Rattle.blocks.proofs.reading.read_section.Goals.{After-payload-bytes}
 
-pub loop-left-init : goal.loop-left-init
-loop-left-init c = section-read_start c.requires.whole c.requires.section_in_bounds c.requires.widths_in_bounds
+-- bytes are left for the block
+some : (c : After-payload-bytes) → 0 < c.loop-number.left
+some c = section-read-some c.loop-number.invariant (omega (arith, c.loop-number-test.true, c.block_count.ensures))
 
-pub payload-bytes-requires : goal.payload-bytes-requires
-payload-bytes-requires c = (section-read_block c.loop-left.invariant c.loop-left-test.true c.least-used.ensures, whole_small c.loop-left.invariant.whole c.least-used.ensures)
+pub loop-number-init : goal.loop-number-init
+loop-number-init c = section-read_start c.requires.whole c.requires.section_in_bounds c.requires.widths_in_bounds
 
-pub nonzero_div-count : goal.nonzero_div-count
-nonzero_div-count c = omega (arith, c.loop-left.invariant.whole.some)
-
-pub read_records-requires : goal.read_records-requires
-read_records-requires c = record { widths = (c.loop-left.invariant.whole.widths, c.loop-left.invariant.whole.sum); stride_in_bounds = (section-read_long c.loop-left.invariant c.loop-left-test.true c.least-used.ensures (part_payload _ (whole_small c.loop-left.invariant.whole c.least-used.ensures) c.payload-bytes.ensures), section-read_room c.loop-left.invariant c.loop-left-test.true c.least-used.ensures) }
-
-pub overflow_sub-left : goal.overflow_sub-left
-overflow_sub-left c = omega (arith, c.least-used.ensures)
-
-pub overflow_add-number : goal.overflow_add-number
-overflow_add-number c = omega (arith, section-read_block c.loop-left.invariant c.loop-left-test.true c.least-used.ensures)
+pub read_records-requires-clause-count_in_bounds : goal.read_records-requires-clause-count_in_bounds
+read_records-requires-clause-count_in_bounds c =
+    let h = some (goal.at.read_records-requires-clause-count_in_bounds c).After-payload-bytes in (
+      section-read_long c.loop-number.invariant h c.min-used.ensures (part_payload _ (whole_small c.loop-number.invariant.whole c.min-used.ensures) c.payload-bytes.ensures),
+      section-read_room c.loop-number.invariant h c.min-used.ensures,
+    )
 
 pub overflow_mul-to : goal.overflow_mul-to
-overflow_mul-to c = omega (arith, section-read_room c.loop-left.invariant c.loop-left-test.true c.least-used.ensures)
+overflow_mul-to c = omega (arith, section-read_room c.loop-number.invariant (some (goal.at.overflow_mul-to c).After-payload-bytes) c.min-used.ensures)
 
 pub overflow_add-to : goal.overflow_add-to
-overflow_add-to c = omega (arith, section-read_room c.loop-left.invariant c.loop-left-test.true c.least-used.ensures)
+overflow_add-to c = omega (arith, section-read_room c.loop-number.invariant (some (goal.at.overflow_add-to c).After-payload-bytes) c.min-used.ensures)
 
-pub loop-left-smaller : goal.loop-left-smaller
-loop-left-smaller c = omega (arith, c.least-used.ensures, whole_some c.loop-left.invariant.whole c.least-used.ensures c.loop-left-test.true)
+pub loop-number-preserved : goal.loop-number-preserved
+loop-number-preserved c =
+    section-read_turn c.loop-number.invariant (some (goal.at.loop-number-preserved c).After-payload-bytes) c.min-used.ensures
+    (part_payload _ (whole_small c.loop-number.invariant.whole c.min-used.ensures) c.payload-bytes.ensures)
+    c.read_records.ensures
 
-pub loop-left-preserved : goal.loop-left-preserved
-loop-left-preserved c = section-read_turn c.loop-left.invariant c.loop-left-test.true c.least-used.ensures (part_payload _ (whole_small c.loop-left.invariant.whole c.least-used.ensures) c.payload-bytes.ensures) c.read_records.ensures
-
-pub shape_of-out : goal.shape_of-out
-shape_of-out c = c.loop-left.invariant.putting.size
-
-pub returns : goal.returns
-returns c = record { value = section-read-after c.loop-left.invariant (search rules); out_after = section-read_end c.loop-left.invariant (search rules) c.args.section.kind }
+pub returns-clause-out_after : goal.returns-clause-out_after
+returns-clause-out_after c =
+    section-read_end c.loop-number.invariant (section-read-none c.loop-number.invariant (omega (arith, c.loop-number-test.false, c.block_count.ensures))) c.args.section.kind

@@ -1,11 +1,6 @@
 -- Each turn compares the labels of the next region; with those after it all are compared.
-use Prim.Native.Nat.{◌-◌}
-use lib.ListN.{length}
 use Rattle.engine.specs.Compared.{Compared}
 use Rattle.engine.proofs.memory.differing.Given as goal
 
 abbrev pub invariant-loop-i : goal.invariant-loop-i
 invariant-loop-i l = Compared l.before l.after l.i l.n
-
-abbrev pub decreases-loop-i : goal.decreases-loop-i
-decreases-loop-i l = length l.before - l.i

@@ -1,7 +1,4 @@
 -- A region given to its own sector changes nothing; given to another, the colouring and the labels follow the change, and then all else.
-use native.Mathlib.Omega.{arith}
-use mathlib.Core.Path.{sym}
-use lib.Seq.{length-take-le}
 use Rattle.engine.specs.Memory.{kept-labels}
 use Rattle.engine.specs.Turning.{turning_placed, turning_sides}
 use Rattle.engine.specs.Settling.{followed_settling, followed_remade}
@@ -13,12 +10,6 @@ returns-then-own-sector c = still_remade c.requires.recolouring c.if-own-sector.
 
 pub sides_in-before-requires : goal.sides_in-before-requires
 sides_in-before-requires c = turning_placed (recolouring_turning c.requires.recolouring c.if-own-sector.false) (recolouring-kept c.requires.recolouring) c.requires.recolouring.ready.prices
-
-pub slice_bounds-turn-end : goal.slice_bounds-turn-end
-slice_bounds-turn-end c = omega (arith, c.requires.recolouring.ready.room)
-
-pub slice_bounds-turn-end-2 : goal.slice_bounds-turn-end-2
-slice_bounds-turn-end-2 c = sym (length-take-le _ c.args.work.now (omega (arith, c.requires.recolouring.ready.room)))
 
 pub turn-turned-requires : goal.turn-turned-requires
 turn-turned-requires c =

@@ -1,15 +1,6 @@
 -- A region given to its own sector leaves the total; given to another, the figures and the total follow the change.
-use mathlib.Core.Path.{refl}
-use Rattle.engine.specs.Sorted.{ready_paid}
 use Rattle.engine.specs.Changing.{ready_changing, changing_shifting, changing_totalling, total_changed}
-use Rattle.engine.specs.Recolouring.{still-total, recolouring-kept, recolouring_turning}
 use Rattle.engine.proofs.recolour.probe.Goals as goal
-
-pub returns-then-own-sector : goal.returns-then-own-sector
-returns-then-own-sector c = record { remembered = c.requires.remembered; r_value = still-total c.requires.recolouring c.if-own-sector.true; colouring_after = refl }
-
-pub change_at-change-requires : goal.change_at-change-requires
-change_at-change-requires c = record { paid = ready_paid c.requires.sorted c.requires.recolouring.ready; remembered = c.requires.remembered; turning = recolouring_turning c.requires.recolouring c.if-own-sector.false; kept = recolouring-kept c.requires.recolouring; flown = c.requires.flown }
 
 pub figures_after-figures-requires : goal.figures_after-figures-requires
 figures_after-figures-requires c = changing_shifting (ready_changing c.requires.recolouring.setting c.requires.recolouring.ready c.change_at-change.ensures.turns.changed)

@@ -1,15 +1,9 @@
 -- What the two sectors have, what the look finds and what the flights gain and lose make the change; the look leaves the colouring as it was.
-use Rattle.engine.specs.Turning.{turning_looking, turning_paying, turning_pricing, turning_costs, turning_movable, turning_turns}
+use Rattle.engine.specs.Turning.{turning_paying, turning_costs, turning_movable, turning_turns}
 use Rattle.engine.proofs.turn.change_anew.Goals as goal
-
-pub look_anew-look-requires : goal.look_anew-look-requires
-look_anew-look-requires c = turning_looking c.requires.turning
 
 pub paid-after-requires : goal.paid-after-requires
 paid-after-requires c = let r = turning_paying c.requires.turning c.requires.before_value c.requires.limited_value in record { paying = r.0; passing = r.1 }
-
-pub swing_at-dwell-requires : goal.swing_at-dwell-requires
-swing_at-dwell-requires c = let r = turning_pricing c.requires.turning c.requires.flown c.look_anew-look.ensures.colouring_unchanged in record { pricing = r.0; in_range = r.1 }
 
 pub change_of-requires : goal.change_of-requires
 change_of-requires c = turning_movable c.requires.turning c.requires.before_value c.look_anew-look.ensures.looked

@@ -1,34 +1,16 @@
 -- What stands in the work memory and beside it, what the look finds and what the flights gain and lose make the change; the look leaves the colouring as it was.
-use native.Mathlib.Omega.{arith}
-use mathlib.Core.Path.{sym}
-use lib.Seq.{length-take-le}
 use Rattle.engine.specs.Memory.{kept-labels}
-use Rattle.engine.specs.Turning.{turning_placed, turning_sides, turning_looking, turning_remembered, turning_remembers, turning_paying, turning_pricing, turning_costs, turning_movable, turning_turns}
+use Rattle.engine.specs.Turning.{turning_placed, turning_sides, turning_looking, turning_remembered, turning_remembers, turning_paying, turning_costs, turning_movable, turning_turns}
 use Rattle.engine.proofs.turn.change_at.Goals as goal
 
 pub sides_in-before-requires : goal.sides_in-before-requires
 sides_in-before-requires c = turning_placed c.requires.turning c.requires.kept c.requires.paid.prices
-
-pub overflow_sub-workload : goal.overflow_sub-workload
-overflow_sub-workload c = omega (arith, c.requires.turning.region)
-
-pub offset_bounds-workloads-v : goal.offset_bounds-workloads-v
-offset_bounds-workloads-v c = omega (arith, c.requires.turning.region, c.requires.turning.basis.limits.R)
-
-pub bounds-workloads-v : goal.bounds-workloads-v
-bounds-workloads-v c = omega (arith, c.requires.turning.region, c.requires.turning.basis.limits.workloads)
-
-pub slice_bounds-look_at-end : goal.slice_bounds-look_at-end
-slice_bounds-look_at-end c = sym (length-take-le _ c.args.work.now (omega (arith, c.requires.kept.room)))
 
 pub look_at-look-requires : goal.look_at-look-requires
 look_at-look-requires c = record { remembered = turning_remembered c.requires.turning c.requires.remembered; looking = turning_looking c.requires.turning; labels_value = kept-labels c.requires.kept }
 
 pub paid-after-requires : goal.paid-after-requires
 paid-after-requires c = let r = turning_paying c.requires.turning (turning_sides c.requires.turning c.requires.kept c.requires.paid.prices c.sides_in-before.ensures) c.requires.paid.limited in record { paying = r.0; passing = r.1 }
-
-pub swing_at-dwell-requires : goal.swing_at-dwell-requires
-swing_at-dwell-requires c = let r = turning_pricing c.requires.turning c.requires.flown c.look_at-look.ensures.colouring_unchanged in record { pricing = r.0; in_range = r.1 }
 
 pub change_of-requires : goal.change_of-requires
 change_of-requires c = turning_movable c.requires.turning (turning_sides c.requires.turning c.requires.kept c.requires.paid.prices c.sides_in-before.ensures) c.look_at-look.ensures.looked

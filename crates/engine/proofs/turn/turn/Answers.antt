@@ -1,16 +1,10 @@
 -- What the region meets and the pieces that are found as the labels follow make a look, and with what the two sectors have and the flights gain and lose they make the change.
 use Rattle.search.specs.Looking.{looked_both}
-use Rattle.engine.specs.Turning.{turning_looking, turning_labels, turning_paying, turning_pricing, turning_costs, turning_movable, turning_turns, turning_followed}
+use Rattle.engine.specs.Turning.{turning_labels, turning_paying, turning_costs, turning_movable, turning_turns, turning_followed}
 use Rattle.engine.proofs.turn.turn.Goals as goal
-
-pub meet-met-requires : goal.meet-met-requires
-meet-met-requires c = record { looking = turning_looking c.requires.turning; labels_value = c.requires.labels_value }
 
 pub paid-after-requires : goal.paid-after-requires
 paid-after-requires c = let r = turning_paying c.requires.turning c.requires.before_value c.requires.limited_value in record { paying = r.0; passing = r.1 }
-
-pub swing_at-dwell-requires : goal.swing_at-dwell-requires
-swing_at-dwell-requires c = let r = turning_pricing c.requires.turning c.requires.flown c.meet-met.ensures.colouring_unchanged in record { pricing = r.0; in_range = r.1 }
 
 pub recolour-labelled-requires : goal.recolour-labelled-requires
 recolour-labelled-requires c = turning_labels c.requires.turning c.meet-met.ensures.colouring_unchanged c.meet-met.auto.queue c.requires.labels_value

@@ -7,6 +7,6 @@ pub returns-then-visit-first : goal.returns-then-visit-first
 unfolding with_visit
 returns-then-visit-first c = rw (eq-eqb _ _ c.if-visit-first.true) c.joined.ensures
 
-pub returns : goal.returns
+pub returns-else-visit-first : goal.returns-else-visit-first
 unfolding with_visit
-returns c = rw (ne_eqb _ _ c.if-visit-first.false, ← c.price_from-after.ensures) c.broken.ensures
+returns-else-visit-first c = rw (ne_eqb _ _ c.if-visit-first.false, ← c.price_from.ensures) c.broken.ensures

@@ -4,6 +4,3 @@ use Rattle.flights.proofs.pricing.flight_prices.Given as goal
 
 abbrev pub invariant-loop-k : goal.invariant-loop-k
 invariant-loop-k l = Walked l.timed l.flight l.colouring l.region l.sector l.k l.firsts
-
-abbrev pub decreases-loop-k : goal.decreases-loop-k
-decreases-loop-k l = l.k

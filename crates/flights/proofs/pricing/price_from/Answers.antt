@@ -5,9 +5,3 @@ use Rattle.flights.proofs.pricing.price_from.Goals as goal
 
 pub overflow_add-result : goal.overflow_add-result
 overflow_add-result c = omega (arith, c.price.ensures, paying_bound c.requires.paying c.args.first.seconds (omega (arith, c.requires.fits.0)))
-
-pub returns-then-first : goal.returns-then-first
-returns-then-first c = rw (c.if-first.true, c.price.ensures)
-
-pub returns : goal.returns
-returns c = rw c.if-first.false (omega arith)

@@ -2,11 +2,8 @@
 use Rattle.flights.specs.FirstStretch.{visiting_fits, taken_fits, taken-before, taken_turn}
 use Rattle.flights.proofs.pricing.with_visit.Goals as goal
 
-pub stretch_of-visit-requires : goal.stretch_of-visit-requires
-stretch_of-visit-requires c = taken-before c.requires
-
-pub add_visit-requires : goal.add_visit-requires
-add_visit-requires c = record { paying = c.requires.timing; fits = (rw c.stretch_of-visit.ensures (visiting_fits (taken-before c.requires)), taken_fits c.requires) }
+pub add_visit-requires-clause-fits : goal.add_visit-requires-clause-fits
+add_visit-requires-clause-fits c = (rw c.stretch_of-visit.ensures (visiting_fits (taken-before c.requires)), taken_fits c.requires)
 
 pub returns : goal.returns
 returns c = taken_turn c.requires c.stretch_of-visit.ensures c.add_visit.ensures

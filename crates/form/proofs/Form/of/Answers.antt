@@ -1,22 +1,26 @@
--- Fewer than four bytes are no letters; of four, the comparison with the second's letters decides.
-use mathlib.Core.Bool.{Bool, cond}
-use mathlib.Core.Path.{sym, ap, ◌∙◌}
-use lib.Seq.{length-take-le}
+-- The comparison with the second's letters decides.
+use Rattle.std.proofs.Common.{ℕ, ◌≡◌, List, [], ◌∷◌, Bool, arith, take, sym, ap, ap₂, ◌∙◌, refl}
+use Rattle.std.specs.Prelude.{cond, eqb, ◌&&◌}
+use lib.Pointwise.{pointwise}
+use Rattle.blocks.specs.Block.{letters_length}
+use Rattle.blocks.specs.Same.{same}
 use Rattle.form.specs.declared.Form.TheVariants.{First, Second}
-use Rattle.form.specs.Formed.{formed, formed_short}
+use Rattle.form.specs.Form.{letters}
+use Rattle.form.specs.Formed.{formed}
 use Rattle.form.proofs.Form.of.Goals as goal
 
-pub returns-then-sheet-lt-LETTERS_LENGTH : goal.returns-then-sheet-lt-LETTERS_LENGTH
-returns-then-sheet-lt-LETTERS_LENGTH c = formed_short _ c.if-sheet-lt-LETTERS_LENGTH.true
+turned : (y x : ℕ) → eqb y x ≡ eqb x y
+turned y x = grind arith
 
-pub slice_bounds-same_bytes-end : goal.slice_bounds-same_bytes-end
-slice_bounds-same_bytes-end c = sym (length-take-le 4 c.args.sheet.now c.if-sheet-lt-LETTERS_LENGTH.false)
+-- two lists are the same as the second is as the first
+flipped : (ys xs : List ℕ) → pointwise eqb ys xs ≡ same xs ys
+flipped [] [] = refl
+flipped [] (x ∷ xs) = refl
+flipped (y ∷ ys) [] = refl
+flipped (y ∷ ys) (x ∷ xs) = ap₂ (λ (a b : Bool). a && b) (turned y x) (flipped ys xs)
 
-pub same_bytes-requires : goal.same_bytes-requires
-same_bytes-requires c = sym (length-take-le 4 c.args.sheet.now c.if-sheet-lt-LETTERS_LENGTH.false)
+pub returns-then-starts_with : goal.returns-then-starts_with
+returns-then-starts_with c = ap (λ (b : Bool). cond b Second First) (sym c.if-starts_with.true) ∙ formed _ (c.starts_with.ensures.value ∙ flipped (letters Second) (take letters_length c.args.sheet.now))
 
-pub returns-then-same_bytes : goal.returns-then-same_bytes
-returns-then-same_bytes c = ap (λ (b : Bool). cond b Second First) (sym c.if-same_bytes.true) ∙ formed _ c.same_bytes.ensures
-
-pub returns : goal.returns
-returns c = ap (λ (b : Bool). cond b Second First) (sym c.if-same_bytes.false) ∙ formed _ c.same_bytes.ensures
+pub returns-else-starts_with : goal.returns-else-starts_with
+returns-else-starts_with c = ap (λ (b : Bool). cond b Second First) (sym c.if-starts_with.false) ∙ formed _ (c.starts_with.ensures.value ∙ flipped (letters Second) (take letters_length c.args.sheet.now))

@@ -1,11 +1,8 @@
--- After each turn what is turned and what is left to turn make the whole list, turned.
-use Prim.Native.Nat.{◌-◌}
-use lib.ListN.{length}
+-- What is turned and what is left to turn make the whole list, turned.
+use Rattle.std.proofs.Common.{◌*◌}
+use Rattle.meaning.specs.Plan.{constraint_length}
 use Rattle.form.proofs.TurningLaws.{Turning}
 use Rattle.form.proofs.turning.turn.Given as goal
 
-abbrev pub invariant-loop-i : goal.invariant-loop-i
-invariant-loop-i l = Turning l.initial.constraints l.constraints l.i
-
-abbrev pub decreases-loop-i : goal.decreases-loop-i
-decreases-loop-i l = length l.initial.constraints - l.i
+abbrev pub invariant-loop-k : goal.invariant-loop-k
+invariant-loop-k l = Turning l.initial.constraints l.constraints (constraint_length * l.k)

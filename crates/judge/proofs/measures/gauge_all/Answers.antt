@@ -1,5 +1,5 @@
 -- What is passed has its gauge, and each turn stores the next.
-use Prim.Native.Nat.{◌<◌, ◌-◌}
+use Prim.Native.Nat.{◌<◌}
 use native.Mathlib.Omega.{arith}
 use mathlib.Core.Path.{sym, ◌∙◌}
 use borrow.Author.Rules.{rules}
@@ -19,14 +19,14 @@ loop-k-init c = (search rules, mapped_start (c.requires.gauges_len ∙ sym (leng
 pub gauge_of-requires : goal.gauge_of-requires
 gauge_of-requires c =
     let h : c.loop-k.k < constraint_count c.args.constraints.now = omega arith in
-    record { few = c.requires.few; constraint_limits = unweighted-limits (constraint_every _ h ConstraintLimits c.requires.every) }
+    record { few = c.requires.few; constraint_limits = rw c.at.ensures (unweighted-limits (constraint_every _ h ConstraintLimits c.requires.every)) }
 
 pub loop-k-preserved : goal.loop-k-preserved
 unfolding constraints_of gauge_by
 loop-k-preserved c =
     let h : c.loop-k.k < constraint_count c.args.constraints.now = omega arith in (
       simp length-set c.loop-k.invariant.0,
-      mapped_turn c.loop-k.invariant.1 (drop-list_of _ _ c.loop-k.k h) c.gauge_of.ensures,
+      mapped_turn c.loop-k.invariant.1 (drop-list_of _ _ c.loop-k.k h) (rw c.at.ensures at c.gauge_of.ensures),
     )
 
 pub shape_of-gauges : goal.shape_of-gauges

@@ -1,5 +1,4 @@
 -- What is passed has its gauge, and each turn stores the next.
-use Prim.Native.Nat.{◌-◌}
 use mathlib.Core.Path.{◌≡◌}
 use lib.ListN.{length}
 use Rattle.lists.specs.Loops.{Mapped}
@@ -10,6 +9,3 @@ use Rattle.judge.proofs.measures.gauge_all.Given as goal
 abbrev pub invariant-loop-k : goal.invariant-loop-k
 invariant-loop-k l = (length l.gauges ≡ length l.initial.gauges)
     × Mapped (gauge_by l.loads) (constraints_of l.constraints) l.k l.gauges
-
-abbrev pub decreases-loop-k : goal.decreases-loop-k
-decreases-loop-k l = length l.initial.gauges - l.k

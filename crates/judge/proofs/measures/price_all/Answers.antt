@@ -1,12 +1,10 @@
 -- What is passed has its price, and each turn stores the next.
-use Prim.Native.Nat.{◌-◌}
 use native.Mathlib.Omega.{arith}
 use borrow.Author.Rules.{rules}
 use lib.ListN.{length-set}
 use lib.Seq.{drop-cons}
 use Rattle.lists.specs.Few.{few_at}
 use Rattle.lists.specs.Loops.{mapped_start, mapped_turn, mapped_end}
-use Rattle.meaning.specs.Prices.{price}
 use Rattle.judge.proofs.measures.price_all.Goals as goal
 
 pub loop-i-init : goal.loop-i-init

@@ -1,5 +1,4 @@
 -- What is passed has its price, and each turn stores the next.
-use Prim.Native.Nat.{◌-◌}
 use mathlib.Core.Path.{◌≡◌}
 use lib.ListN.{length}
 use Rattle.lists.specs.Loops.{Mapped}
@@ -9,6 +8,3 @@ use Rattle.judge.proofs.measures.price_all.Given as goal
 
 abbrev pub invariant-loop-i : goal.invariant-loop-i
 invariant-loop-i l = (length l.prices ≡ length l.initial.prices) × Mapped (price (constraints_of l.limited)) l.loads l.i l.prices
-
-abbrev pub decreases-loop-i : goal.decreases-loop-i
-decreases-loop-i l = length l.initial.prices - l.i

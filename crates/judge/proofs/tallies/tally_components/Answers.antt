@@ -1,5 +1,4 @@
 -- The sums are the tally of the regions passed, since each region adds what it counts for to the sum of its sector.
-use Prim.Native.Nat.{◌-◌}
 use native.Mathlib.Omega.{arith}
 use Rattle.lists.specs.Tests.{bit_le}
 use Rattle.meaning.specs.Joined.{leads}
@@ -7,7 +6,7 @@ use Rattle.judge.specs.Tallies.{tallied_start, tallied_length, tallied_end, tall
 use Rattle.judge.proofs.tallies.tally_components.Goals as goal
 
 pub loop-i-init : goal.loop-i-init
-loop-i-init c = tallied_start c.clear.auto.numbers c.clear.ensures c.requires
+loop-i-init c = tallied_start c.fill.ensures.len (c.fill.ensures.after (λ n e. e)) c.requires
 
 pub add_to-requires : goal.add_to-requires
 add_to-requires c =
@@ -20,7 +19,7 @@ loop-i-preserved c =
     (tallied_turn c.loop-i.invariant c.loop-i-test.true c.lead_at.ensures)
 
 pub shape_of-counts : goal.shape_of-counts
-shape_of-counts c = tallied_length c.clear.auto.numbers c.loop-i.invariant
+shape_of-counts c = tallied_length c.fill.ensures.len c.loop-i.invariant
 
 pub returns : goal.returns
-returns c = tallied_end c.clear.auto.numbers c.loop-i.invariant c.loop-i-test.false
+returns c = tallied_end c.fill.ensures.len c.loop-i.invariant c.loop-i-test.false

@@ -3,4 +3,4 @@ use Rattle.terms.specs.DistanceLaws.{distance-stands}
 use Rattle.judge.proofs.verdicts.missed.Goals as goal
 
 pub returns : goal.returns
-returns c = rw (← distance-stands, ← c.relation_of.ensures, ← c.distance.ensures) c.bit_of.ensures
+returns c = rw (← distance-stands, ← c.distance.ensures) c.from.ensures

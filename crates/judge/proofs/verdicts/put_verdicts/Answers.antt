@@ -1,5 +1,4 @@
 -- What is passed has its verdict, each turn stores the next, and what lies beyond stays.
-use Prim.Native.Nat.{◌-◌}
 use native.Mathlib.Omega.{arith}
 use borrow.Author.Rules.{rules}
 use lib.ListN.{length-set}
@@ -17,7 +16,7 @@ bounds-verdicts-at-in-loop-k c = simp length-set (omega arith)
 pub loop-k-preserved : goal.loop-k-preserved
 loop-k-preserved c =
     let next = drop-list_of _ _ c.loop-k.k c.loop-k-test.true in
-    (simp length-set c.loop-k.invariant.0, judging_turn c.loop-k.invariant.1 next c.bit_of.ensures c.violation_at-v.ensures)
+    (simp length-set c.loop-k.invariant.0, judging_turn c.loop-k.invariant.1 next c.from.ensures c.violation_at-v.ensures)
 
 pub shape_of-verdicts : goal.shape_of-verdicts
 shape_of-verdicts c = c.loop-k.invariant.0

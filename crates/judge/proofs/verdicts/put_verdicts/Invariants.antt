@@ -1,5 +1,4 @@
 -- What is passed has its verdict, each turn stores the next, and what lies beyond stays.
-use Prim.Native.Nat.{◌-◌}
 use mathlib.Core.Path.{◌≡◌}
 use lib.ListN.{length}
 use Rattle.lists.specs.Sums.{list_of}
@@ -10,6 +9,3 @@ use Rattle.judge.proofs.verdicts.put_verdicts.Given as goal
 abbrev pub invariant-loop-k : goal.invariant-loop-k
 invariant-loop-k l = (length l.verdicts ≡ length l.initial.verdicts)
     × Judging (list_of (constraint_count l.constraints) (violation_at l.figures l.gauges l.constraints)) l.initial.verdicts l.k l.verdicts
-
-abbrev pub decreases-loop-k : goal.decreases-loop-k
-decreases-loop-k l = constraint_count l.constraints - l.k

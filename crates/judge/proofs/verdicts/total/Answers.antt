@@ -1,46 +1,38 @@
--- The total so far and that of the constraints left make the sum over all of them, which fits with what the figures have besides.
-use Prim.Native.Nat.{◌-◌, ◌*◌}
-use native.Mathlib.Omega.{arith}
-use mathlib.Core.Path.{ap}
-use Rattle.lists.specs.Loops.{summed_start, summed_room, summed_turn, summed_end}
-use Rattle.meaning.specs.Plan.{constraint_at, ConstraintLimits}
-use Rattle.kinds.specs.Constraints.{length_constraints, constraint_every, constraint_next}
-use Rattle.judge.specs.Figures.{violation_by, total_by}
-use Rattle.judge.specs.Small.{unweighted-limits, weighted_bound, total_bound}
+-- The chain adds up what each constraint adds, which fits with what the figures have besides.
+use Rattle.std.proofs.Common.{◌≡◌, rules, arith}
+use Rattle.std.proofs.lemmas.Iterator.Adapters.{serves_from_places}
+use Rattle.lists.specs.Sums.{sum}
+use Rattle.lists.proofs.Chains.{sum_from_chain, fits_from_chain}
+use Rattle.meaning.specs.Plan.{constraints_of}
+use Rattle.kinds.specs.Paid.{paying_item}
+use Rattle.kinds.proofs.Chains.{all_constraints}
+use Rattle.judge.specs.Figures.{weighted_by, total_by}
+use Rattle.judge.specs.Small.{total_bound}
 use Rattle.judge.proofs.verdicts.total.Goals as goal
+use Rattle.judge.proofs.verdicts.total.Goals.{After-sum-weighted}
 
-pub loop-k-init : goal.loop-k-init
-loop-k-init c = summed_start
+pub sum-weighted-requires-clause-can : goal.sum-weighted-requires-clause-can
+sum-weighted-requires-clause-can c =
+    (tt, serves_from_places (all_constraints c.map.ensures.source) (λ k q h. search rules) (λ k i below e. let l = paying_item c.requires.paying below e in search rules))
 
-pub violation-v-requires : goal.violation-v-requires
-violation-v-requires c = record { small_figures = c.requires.small_figures; constraint_limits = unweighted-limits (constraint_every _ c.loop-k-test.true ConstraintLimits c.requires.paying.constraint) }
+pub sum-weighted-requires-clause-fits : goal.sum-weighted-requires-clause-fits
+unfolding total_by
+sum-weighted-requires-clause-fits c =
+    fits_from_chain (weighted_by c.args.figures) (all_constraints c.map.ensures.source) c.map.ensures.closure (λ k r q h. search rules)
+    (omega (arith, total_bound c.requires.small_figures c.requires.paying))
 
-pub overflow_mul-total : goal.overflow_mul-total
-unfolding violation_by
-overflow_mul-total c = record { fits = rw c.violation-v.ensures (omega (arith, weighted_bound c.requires.small_figures c.requires.paying c.loop-k-test.true)) }
-
-pub overflow_add-total-in-loop-k : goal.overflow_add-total-in-loop-k
-unfolding violation_by total_by
-overflow_add-total-in-loop-k c =
-    let paid = ap (λ v. (constraint_at c.args.shared.now c.loop-k.k).weight * v) c.violation-v.ensures in
-    omega (
-      arith,
-      summed_room c.loop-k.invariant (constraint_next _ c.loop-k-test.true) paid,
-      total_bound c.requires.small_figures c.requires.paying,
-    )
-
-pub loop-k-preserved : goal.loop-k-preserved
-unfolding violation_by
-loop-k-preserved c = summed_turn c.loop-k.invariant (constraint_next _ c.loop-k-test.true) (rw c.violation-v.ensures)
+-- all are added up
+all_added : (c : After-sum-weighted) → c.sum-weighted.result ≡ sum (constraints_of c.args.shared.now) (weighted_by c.args.figures)
+all_added c = sum_from_chain (weighted_by c.args.figures) (all_constraints c.map.ensures.source) c.map.ensures.closure (λ k r q h. search rules) c.sum-weighted.ensures.ran
 
 pub overflow_add-result : goal.overflow_add-result
 unfolding total_by
-overflow_add-result c = omega (arith, summed_end c.loop-k.invariant (rw length_constraints c.loop-k-test.false), total_bound c.requires.small_figures c.requires.paying)
+overflow_add-result c = omega (arith, all_added (goal.at.overflow_add-result c).After-sum-weighted, total_bound c.requires.small_figures c.requires.paying)
 
 pub overflow_add-result-2 : goal.overflow_add-result-2
 unfolding total_by
-overflow_add-result-2 c = omega (arith, summed_end c.loop-k.invariant (rw length_constraints c.loop-k-test.false), total_bound c.requires.small_figures c.requires.paying)
+overflow_add-result-2 c = omega (arith, all_added (goal.at.overflow_add-result-2 c).After-sum-weighted, total_bound c.requires.small_figures c.requires.paying)
 
 pub returns : goal.returns
 unfolding total_by
-returns c = rw (summed_end c.loop-k.invariant (rw length_constraints c.loop-k-test.false))
+returns c = rw (all_added (goal.at.returns c).After-sum-weighted)

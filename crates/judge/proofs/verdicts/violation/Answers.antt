@@ -1,4 +1,4 @@
--- Each way out settles the kind, and with it what is due to it.
+-- Each arm settles the kind, and with it what is due to it.
 use Prim.Native.Nat.{◌+◌}
 use native.Mathlib.Omega.{arith}
 use mathlib.Core.Bool.{not}
@@ -10,22 +10,22 @@ use Rattle.judge.specs.Figures.{violation_by}
 use Rattle.judge.proofs.verdicts.violation.Goals as goal
 
 pub overflow_add-result : goal.overflow_add-result
-overflow_add-result c = omega (arith, c.missed.ensures, bit_le (not (stands c.args.relation c.args.figures.components c.args.limit)))
+overflow_add-result c = omega (arith, c.missed.ensures, bit_le (not (stands c.args.constraint.relation c.args.figures.components c.args.constraint.limit)))
 
-pub returns-then-kind-eq-CONNECTED : goal.returns-then-kind-eq-CONNECTED
+pub returns-in-1 : goal.returns-in-1
 unfolding violation_by
-returns-then-kind-eq-CONNECTED c =
+returns-in-1 c =
     ap (λ n. n + c.args.figures.excess) c.missed.ensures
-    ∙ sym (by_kind_1 _ _ _ _ _ c.if-kind-eq-CONNECTED.true)
+    ∙ sym (by_kind_1 _ _ _ _ _ c.in-1.is)
 
-pub returns-then-kind-eq-BORDER : goal.returns-then-kind-eq-BORDER
+pub returns-in-2 : goal.returns-in-2
 unfolding violation_by
-returns-then-kind-eq-BORDER c = c.excess.ensures ∙ sym (by_kind_2 _ _ _ _ _ c.if-kind-eq-BORDER.true)
+returns-in-2 c = c.saturating_sub.ensures ∙ sym (by_kind_2 _ _ _ _ _ c.in-2.is)
 
-pub returns-then-kind-eq-BALANCED : goal.returns-then-kind-eq-BALANCED
+pub returns-in-3 : goal.returns-in-3
 unfolding violation_by
-returns-then-kind-eq-BALANCED c = c.excess-then-kind-eq-BALANCED.ensures ∙ sym (by_kind_3 _ _ _ _ _ c.if-kind-eq-BALANCED.true)
+returns-in-3 c = c.saturating_sub-in-3.ensures ∙ sym (by_kind_3 _ _ _ _ _ c.in-3.is)
 
-pub returns : goal.returns
+pub returns-in_default : goal.returns-in_default
 unfolding violation_by
-returns c = sym (by_kind_late _ _ _ _ (omega arith) (omega arith))
+returns-in_default c = sym (by_kind_late _ _ _ _ (omega arith) (omega arith))

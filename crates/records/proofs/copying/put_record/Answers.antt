@@ -1,7 +1,7 @@
 -- Within the places of the array four stores put the record down, and past them nothing is stored.
+use Rattle.std.proofs.Common.{le-ltb}
 use Rattle.records.specs.Copied.{put_record}
 use Rattle.records.proofs.CopiedLaws.{put_four}
-use borrow.Author.Tests.{le-ltb}
 use Rattle.records.proofs.copying.put_record.Goals as goal
 
 pub returns-then-k-lt-MOST_COPIED : goal.returns-then-k-lt-MOST_COPIED

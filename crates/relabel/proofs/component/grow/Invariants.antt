@@ -6,7 +6,7 @@ use Rattle.relabel.specs.Growing.{Growing}
 use Rattle.relabel.proofs.component.grow.Given as goal
 
 abbrev pub invariant-loop-h : goal.invariant-loop-h
-invariant-loop-h l = Growing (length l.start - 1) (edges_of l.edges) l.start l.near l.sector l.initial.colouring l.initial.queue l.end l.colouring l.queue l.e l.h
+invariant-loop-h l = Growing (length l.faces.start.now - 1) (edges_of l.faces.edges.now) l.faces.start.now l.faces.near.now l.sector l.initial.colouring l.initial.queue l.end l.colouring l.queue l.e l.h
 
 abbrev pub decreases-loop-h : goal.decreases-loop-h
-decreases-loop-h l = length l.start - 1 - l.h
+decreases-loop-h l = length l.faces.start.now - 1 - l.h

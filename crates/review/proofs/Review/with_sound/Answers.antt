@@ -1,18 +1,21 @@
 -- The figures are those of the callees, and the two counts that grow stay small.
-use native.Mathlib.Omega.{arith}
-use lib.Dec.{eqb}
-use Rattle.lists.specs.Tests.{bit_le}
+use Rattle.std.proofs.Common.{◌≡◌, Bool, true, false, refl, rules}
+use Rattle.std.specs.Int.{from_bool}
+use Rattle.lists.specs.Sums.{bit}
+use Rattle.review.specs.Review.{smaller, larger}
 use Rattle.review.specs.Next.{with_sound}
 use Rattle.review.proofs.Review.with_sound.Goals as goal
 
-pub overflow_add-zero : goal.overflow_add-zero
-overflow_add-zero c = omega (arith, c.requires.1, c.bit_of.ensures, bit_le (eqb c.args.total 0))
+bit_from : (b : Bool) → from_bool b ≡ bit b
+bit_from true = refl
+bit_from false = refl
 
 pub returns : goal.returns
 unfolding with_sound
 returns c =
     rw (
-      c.bit_of.ensures,
-      c.or_smaller-smallest.ensures,
-      c.or_larger-largest.ensures,
+      c.from.ensures,
+      bit_from,
+      c.better-self.ensures smaller (λ x y b h. search rules),
+      c.better-self-2.ensures larger (λ x y b h. search rules),
     )

@@ -1,21 +1,11 @@
 -- The kinds passed have what failed before and what fails in this sheet, and each turn stores the next.
-use Prim.Native.Nat.{◌+◌, ◌-◌}
-use native.Mathlib.Omega.{arith}
-use mathlib.Core.Path.{◌≡◌}
-use lib.ListN.{length-set}
-use Rattle.std.proofs.Common.{rules}
+use Rattle.std.proofs.Common.{◌≡◌, ◌+◌, ◌-◌, arith}
 use Rattle.lists.specs.SumLaws.{get_or_bound}
 use Rattle.lists.specs.ListLaws.{drop-up_to}
-use Rattle.lists.specs.Loops.{mapped_start, mapped_turn, mapped_end}
+use Rattle.lists.specs.Loops.{mapped_turn, mapped_end}
 use Rattle.review.specs.Next.{with_failed}
 use Rattle.review.specs.Bounds.{failing_most}
 use Rattle.review.proofs.by_kind.with_failed.Goals as goal
-
-pub loop-k-init : goal.loop-k-init
-loop-k-init c = (search rules, mapped_start (search rules))
-
-pub failing-requires : goal.failing-requires
-failing-requires c = c.requires.constraint_length_in_bounds
 
 pub overflow_add-more : goal.overflow_add-more
 overflow_add-more c =
@@ -30,8 +20,8 @@ overflow_add-more c =
 pub loop-k-preserved : goal.loop-k-preserved
 loop-k-preserved c =
     let e : c.loop-k.k + 1 - 1 ≡ c.loop-k.k = omega arith in
-    (simp length-set c.loop-k.invariant.0, mapped_turn c.loop-k.invariant.1 (drop-up_to _ c.loop-k.k c.loop-k-test.true) (rw (e, c.failing.ensures)))
+    mapped_turn c.loop-k.invariant (drop-up_to _ c.loop-k.k c.loop-k-test.true) (rw (e, c.failing.ensures))
 
 pub returns : goal.returns
 unfolding with_failed
-returns c = mapped_end c.loop-k.invariant.1 (omega arith)
+returns c = mapped_end c.loop-k.invariant (omega arith)

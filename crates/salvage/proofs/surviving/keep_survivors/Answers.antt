@@ -1,5 +1,5 @@
 -- Each turn keeps the sector of one region by its block, and the block of each region is the first of the colouring or the last.
-use Prim.Native.Nat.{◌-◌, ◌<◌}
+use Prim.Native.Nat.{◌<◌}
 use native.Mathlib.Omega.{arith}
 use mathlib.Core.Path.{sym, ◌∙◌}
 use borrow.Author.Rules.{rules}
@@ -23,18 +23,12 @@ loop-i-init c = (search rules, mapped_start (c.requires.colouring_value.1 ∙ sy
 pub bounds-colouring-i : goal.bounds-colouring-i
 bounds-colouring-i c = omega (arith, c.loop-i-test.true, c.loop-i.invariant.0, c.requires.colouring_value.1, length-colouring c.args.form c.args.sheet.now c.requires.has_blocks.1 c.requires.colouring_value.0)
 
-pub loop-i-smaller : goal.loop-i-smaller
-loop-i-smaller c = omega (arith, c.loop-i-test.true, c.loop-i.invariant.0)
-
 pub loop-i-preserved : goal.loop-i-preserved
 loop-i-preserved c =
     let h : c.loop-i.i < c.args.head.regions = omega (arith, c.loop-i-test.true, c.loop-i.invariant.0, c.requires.colouring_value.1) in (
       simp length-set c.loop-i.invariant.0,
       mapped_turn c.loop-i.invariant.1 (drop-up_to c.args.head.regions c.loop-i.i h) (kept_next _ _ c.args.head.sectors c.args.colouring.now c.loop-i.i c.of_block.ensures c.kept.ensures),
     )
-
-pub shape_of-surviving : goal.shape_of-surviving
-shape_of-surviving c = c.loop-i.invariant.0
 
 pub returns : goal.returns
 returns c = kept-all c.args.form c.args.sheet.now c.requires.has_blocks.0.limits c.requires.has_blocks.1 c.colouring_first.ensures c.count_first.ensures c.block_sound-first.ensures c.block_sound-last.ensures c.requires.colouring_value.0 (mapped_end c.loop-i.invariant.1 (rw length_from (omega (arith, c.loop-i-test.false, c.loop-i.invariant.0, c.requires.colouring_value.1))))

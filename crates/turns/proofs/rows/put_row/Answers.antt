@@ -1,31 +1,20 @@
--- The four stores put down the row's cells, since each of its numbers fits.
-use Prim.Native.Nat.{◌*◌}
-use native.Mathlib.Omega.{arith}
-use lib.ListN.{length-set}
+-- The cells, each exact in an i64, are put down.
+use Rattle.std.specs.Prelude.{◌*◌}
 use Rattle.meaning.specs.Moves.{row_length, cells}
 use Rattle.turns.specs.RowLaws.{meant, row-stored}
 use Rattle.turns.proofs.rows.put_row.Goals as goal
 
-pub overflow_cast-status : goal.overflow_cast-status
+pub overflow_cast-cells : goal.overflow_cast-cells
 unfolding cells
-overflow_cast-status c = c.requires.every.0
+overflow_cast-cells c = c.requires.every.0
 
-pub overflow_cast-total : goal.overflow_cast-total
+pub overflow_cast-cells-2 : goal.overflow_cast-cells-2
 unfolding cells
-overflow_cast-total c = c.requires.every.1.1.0
+overflow_cast-cells-2 c = c.requires.every.1.1.0
 
-pub overflow_cast-relabelled : goal.overflow_cast-relabelled
+pub overflow_cast-cells-3 : goal.overflow_cast-cells-3
 unfolding cells
-overflow_cast-relabelled c = c.requires.every.1.1.1.0
-
-pub bounds-rows-at-2 : goal.bounds-rows-at-2
-bounds-rows-at-2 c = simp length-set (omega arith)
-
-pub bounds-rows-at-3 : goal.bounds-rows-at-3
-bounds-rows-at-3 c = simp length-set (omega arith)
-
-pub bounds-rows-at-4 : goal.bounds-rows-at-4
-bounds-rows-at-4 c = simp length-set (omega arith)
+overflow_cast-cells-3 c = c.requires.every.1.1.1.0
 
 pub returns : goal.returns
-returns c = row-stored c.args.rows.now (row_length * c.args.k) (meant c.args.row) c.requires.every
+returns c = row-stored c.args.rows.now (row_length * c.args.k) (meant c.args.row) c.requires.every c.requires.row_length_in_bounds c.copy_from_slice.ensures.after

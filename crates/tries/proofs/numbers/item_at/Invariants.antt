@@ -1,9 +1,0 @@
--- The index stays within the line.
-use Rattle.std.proofs.Common.{◌-◌, ◌≤◌, length}
-use Rattle.tries.proofs.numbers.item_at.Given as goal
-
-abbrev pub invariant-loop-i : goal.invariant-loop-i
-invariant-loop-i l = l.i ≤ length l.line
-
-abbrev pub decreases-loop-i : goal.decreases-loop-i
-decreases-loop-i l = length l.line - l.i
