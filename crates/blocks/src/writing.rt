@@ -63,7 +63,8 @@ fn write_block(sheet: &mut [u8], block: Block)
     write_check(sheet, at);
 }
 
-// Puts the blocks of a section down from block `first` on, and answers the block after them: its bytes are the numbers, in records of this shape.
+// Puts the blocks of a section down from block `first` on, and answers the block after them: its bytes are the numbers, in records of this shape. (Taken into each of its callers, so that the widths of the numbers are known where they are put down.)
+#[inline(always)]
 pub fn write_section(
     sheet: &mut [u8],
     letters: &[u8],

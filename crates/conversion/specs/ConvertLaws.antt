@@ -1,6 +1,6 @@
 -- Converting: when the first sheet carries contents, that the lists that are held make their sheet, and that each way out leaves the outcome.
 -- Assumes nothing.
-use Prim.Native.Nat.{ℕ, ◌+◌, ◌*◌, ◌/◌, ◌≤◌, ◌<◌}
+use Prim.Native.Nat.{ℕ, ◌+◌, ◌*◌, ◌/◌, ◌^◌, ◌≤◌, ◌<◌}
 use Rattle.std.proofs.Common.{arith, ◌∙◌, take_all, length-take-le}
 use Rattle.std.specs.Prelude.{◌≡◌, refl, Bool, true, false, not, ◌&&◌, Option, None, Some, is_some, eqb, length, take}
 use Rattle.std.specs.List.{list_all}
@@ -8,7 +8,9 @@ use Rattle.std.proofs.Math.Path.{sym, ap}
 use Rattle.std.proofs.Math.Bool.{and-false}
 use mathlib.Core.List.{List, [], ◌∷◌}
 use borrow.Author.Tests.{ne_eqb, lt-leb, le-leb}
-use Rattle.meaning.specs.Plan.{constraint_length}
+use Rattle.lists.specs.Sums.{sum}
+use Rattle.lists.specs.SumLaws.{few_bound}
+use Rattle.meaning.specs.Plan.{constraint_length, most_regions, most_area}
 use Rattle.scans.specs.Items.{first_off, constraint_right, place_of}
 use Rattle.refusals.specs.declared.Refusal.{Refusal}
 use Rattle.refusals.specs.Table.{refused, refusal}
@@ -64,6 +66,12 @@ module _ (k : Contents) {xs : List ℕ} {a : Bool} (o : xs ≡ k.outside) (p : a
         → place_of m ≡ first_off (length cs / constraint_length) (constraint_right (kind_count First) cs) → is_some m ≡ not r → r ≡ carries First k
     unfolding carries
     kinds_only z m {r} f g t d i = rw (none_place m r i, d, t, kinds_right_lem k z, same_zeros k.outside, ← o, ← p, f, ← n, ← q, g)
+
+-- outside areas that the second sheet takes add up to a number that fits
+pub outside_fits : (k : Contents) → (contents_refusal Second k).code ≡ 0 → {xs : List ℕ} → xs ≡ k.outside → sum xs (λ x. x) < 2 ^ 64
+outside_fits k z o =
+    let l = (valid_contents Second k z).limits in
+    rw o (omega (arith, few_bound most_regions most_area k.outside (λ x. x) (omega (arith, l.outside, l.R.high)) l.outside_area))
 
 -- ---- the sheet of what is held
 

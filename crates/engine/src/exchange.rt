@@ -124,7 +124,8 @@ fn together(once: Turned, twice: Turned, relabelled: u64) -> Turned
     Turned { change, relabelled }
 }
 
-// Gives two regions of different sectors each other's sector in the colouring, brings the labels up to date, and answers what that changes, by what the two sectors have before it.
+// Gives two regions of different sectors each other's sector in the colouring, brings the labels up to date, and answers what that changes, by what the two sectors have before it. (A call of its own: taken into `make`, it has the memory for the labels cleared also where nothing is exchanged.)
+#[inline(never)]
 fn turn_both(
     prepared: Prepared,
     colouring: &mut [u64],

@@ -5,6 +5,7 @@
 
 ghost use Rattle.std.specs.Prelude.{◌≤◌, length};
 
+use crate::trying::{Memory, try_call};
 use input::read_full;
 use std::io;
 
@@ -23,19 +24,20 @@ fn find(text: &[u8], byte: u8) -> usize
 }
 
 // Makes the call of a line; a line without a colon has none.
-fn try_line(rt: &impl Print, line: &[u8]) -> io::Result<()> {
+fn try_line(rt: &impl Print, line: &[u8], memory: &mut Memory) -> io::Result<()> {
     let end = find(line, b'#');
     let colon = find(&line[..end], b':');
     if end <= colon {
         return Ok(());
     }
     let after = colon + 1;
-    trying::try_call(rt, &line[..after], &line[after..end])
+    try_call(rt, &line[..after], &line[after..end], memory)
 }
 
 fn try_lines(rt: &impl Print, text: &[u8]) -> io::Result<()> {
+    let mut memory = Memory::BLANK;
     for line in text.split(|byte| *byte == b'\n') {
-        try_line(rt, line)?;
+        try_line(rt, line, &mut memory)?;
     }
     Ok(())
 }

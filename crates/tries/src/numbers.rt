@@ -4,22 +4,6 @@ ghost use Rattle.std.specs.Prelude.{◌≤◌, length};
 // The most items of a line, its numbers and bars, that are read.
 pub const MOST_ITEMS: usize = 512;
 
-// The lists of a line, in their order.
-#[derive(Clone, Copy)]
-pub enum List {
-    Head,
-    Workloads,
-    Outside,
-    Edges,
-    Counts,
-    Visits,
-    Constraints,
-    Colouring,
-    Moves,
-    Room,
-    Shown,
-}
-
 // A number that is not below this one takes no further digit.
 const LARGE: u64 = 1_000_000_000_000_000_000;
 
@@ -63,14 +47,10 @@ fn number_of(digits: &[u8]) -> u64 {
     n
 }
 
-// A list of the items of a line, held at the front of a buffer as far as there is room; a line may end before it, and then it is empty.
-pub fn read_list<'a>(items: &[u8], which: List, held: &'a mut [u64]) -> &'a mut [u64] {
-    let text = items
-        .split(|byte| *byte == b'|')
-        .nth(which as usize)
-        .unwrap_or(&[]);
+// The numbers of a list, held at the front of a buffer as far as there is room; a line may end before a list, and then it is empty.
+pub fn read_list<'a>(list: Option<&[u8]>, held: &'a mut [u64]) -> &'a mut [u64] {
     let mut count = 0;
-    for digits in text.split(|byte| !byte.is_ascii_digit()) {
+    for digits in list.unwrap_or(&[]).split(|byte| !byte.is_ascii_digit()) {
         if !digits.is_empty() && count < held.len() {
             held[count] = number_of(digits);
             count += 1;

@@ -42,7 +42,8 @@ fn write_head(form: Form, sheet: &mut [u8], head: Head) -> usize
     )
 }
 
-// Puts the blocks of a kind down from block `first` on, and answers the block after them.
+// Puts the blocks of a kind down from block `first` on, and answers the block after them. (Taken into its callers, which know the kind.)
+#[inline(always)]
 pub fn write_kind(
     form: Form,
     sheet: &mut [u8],

@@ -4,6 +4,8 @@ use Rattle.review.specs.Bounds.{sound_few, refused_few, zero_few, failed_few}
 use Rattle.review.specs.Judging.{judged-refused, judged-sound}
 use Rattle.review.proofs.Review.with_sheet.Goals as goal
 
+-- Of what is counted before this sheet there is less than there may be,
+-- so that it can be counted as refused, by its kinds, and as sound.
 pub with_refused-requires : goal.with_refused-requires
 with_refused-requires c = refused_few c.requires.0 c.requires.1
 

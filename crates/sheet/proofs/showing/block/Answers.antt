@@ -35,6 +35,8 @@ pub block_fault-requires-clause-block_length_in_bounds : goal.block_fault-requir
 block_fault-requires-clause-block_length_in_bounds c =
     block_room (due_here (goal.at.block_fault-requires-clause-block_length_in_bounds c).Else-past_end) c.of-form.ensures c.head_in.ensures (due (goal.at.block_fault-requires-clause-block_length_in_bounds c).After-unwrap-due)
 
+-- Whatever is wrong with the block, it lies in the sheet,
+-- and so does its used payload.
 pub payload-requires : goal.payload-requires
 payload-requires c = block_room (due_here (goal.at.payload-requires c).Else-past_end) c.of-form.ensures c.head_in.ensures (due (goal.at.payload-requires c).After-unwrap-due)
 
