@@ -18,7 +18,7 @@ pub fn copy_to(bytes: &mut [u8], at: usize, from: &[u8])
     requires { at + length from.now ≤ length bytes.old }
     ensures { bytes.new ≡ put bytes.old at from.now }
 {
-    // By index: where both lists are lent, `copy_from_slice` makes an archive ask for `memmove` from outside.
+    // By index: with `copy_from_slice` the archive asks for `memmove` from outside, where one list that C lends is copied to another.
     for i in 0..from.len() {
         bytes[at + i] = from[i];
     }
