@@ -76,7 +76,7 @@ fn sector_mended(edges: &[u64], colouring: &[u64], region: Region) -> Sector
     }
 }
 
-// Puts down the colouring in which every lost region is given a sector, and any other keeps its own. (A call of its own: its loop over the edges is where a salvage of many lost regions spends its time, and taken into a large caller it took twice as long.)
+// Puts down the colouring in which every lost region is given a sector, and any other keeps its own. (A call of its own: its loop over the edges is where a salvage of many lost regions spends its time, and taken into a large caller it took 1.7 to 2 times as long.)
 #[inline(never)]
 pub fn mend(edges: &[u64], survivors: &[u64], colouring: &mut [u64])
     requires ends { Ends (length survivors.now) (edges_of edges.now) }
